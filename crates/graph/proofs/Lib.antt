@@ -1,0 +1,15 @@
+pub mod TestLaws
+pub mod MemberLaws
+pub mod PlaceLaws
+pub mod PathLaws
+pub mod PointedLaws
+pub mod AcyclicLaws
+pub mod LeastLaws
+pub mod OrderLaws
+pub mod GreedyLaws
+pub mod CountLaws
+pub mod LeftLaws
+pub mod SmallestLaws
+pub mod ReachLaws
+pub mod AddedLaws
+pub mod MapLaws

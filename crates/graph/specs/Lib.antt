@@ -1,0 +1,6 @@
+pub mod Lists
+pub mod Path
+pub mod Acyclic
+pub mod Order
+pub mod Smallest
+pub mod Reach
