@@ -13,3 +13,6 @@ pub mod SmallestLaws
 pub mod ReachLaws
 pub mod AddedLaws
 pub mod MapLaws
+pub mod PartsLaws
+pub mod ReachedLaws
+pub mod CheckLaws

@@ -1,9 +1,10 @@
 -- Members of a list that pass a test: `anyOf` and `keep`. Assumes nothing.
 use mathlib.Core.Path.{_≡_, refl}
 use mathlib.Core.Bool.{Bool, true, false, cond, false≢true}
-use mathlib.Core.List.{List, [], _∷_, List·Memᴰ·head as here, List·Memᴰ·tail as there, List·Memᴰ·not-nil}
+use mathlib.Core.List.{List, [], _∷_, List·Memᴰ·head as here, List·Memᴰ·tail as there, List·Memᴰ·not-nil, List·Memᴰ·cases-cons}
 use mathlib.Core.Logic.{_⊎_, inl, inr}
-use Prim.Native.Nat.{suc, _≤_, _<_}
+use Prim.Native.Nat.{ℕ, suc, _≤_, _<_}
+use native.Mathlib.Decide.{ℕ-discrete}
 use native.Mathlib.Omega.{arith}
 use lib.ListN.{length}
 use Rattle.graph.specs.Lists.{_∈_, _⊆_, anyOf, keep, isNil}
@@ -89,3 +90,12 @@ nil-of-isNil (x ∷ xs) e = absurd (false≢true e)
 pub nil-of-length : {A : Type 0} (rs : List A) → length rs ≤ 0 → rs ≡ []
 nil-of-length [] h = refl
 nil-of-length (x ∷ xs) h = absurd (omega arith)
+
+pub member-or-not : (n : ℕ) (l : List ℕ) → (n ∈ l) ⊎ (¬ (n ∈ l))
+member-or-not n [] = inr List·Memᴰ·not-nil
+member-or-not n (x ∷ l) = go (ℕ-discrete n x) (member-or-not n l)
+  where
+    go : Dec (n ≡ x) → (n ∈ l) ⊎ (¬ (n ∈ l)) → (n ∈ x ∷ l) ⊎ (¬ (n ∈ x ∷ l))
+    go (yes e) r = inl (here e)
+    go (no e) (inl m) = inl (there m)
+    go (no e) (inr f) = inr (λ m. elim (List·Memᴰ·cases-cons m) [ inl p ↦ e p | inr k ↦ f k ])

@@ -4,7 +4,7 @@ use mathlib.Core.List.{List, [], _∷_, List·Memᴰ·head as here, List·Memᴰ
 use Prim.Native.Nat.{ℕ, zero, suc, _<_}
 use native.Mathlib.Nat.{not-suc-le-zero, le-of-suc-le-suc}
 use native.Mathlib.Omega.{arith}
-use lib.ListN.{length, getD}
+use lib.ListN.{length, getD, take}
 use Rattle.graph.specs.Lists.{_∈_, At}
 use Rattle.graph.specs.Order.{Distinct}
 
@@ -41,6 +41,19 @@ module _ {A : Type 0} where
   same-of-at [] i a b p q = absurd p
   same-of-at (x ∷ l) zero a b p q = cc
   same-of-at (x ∷ l) (suc i) a b p q = same-of-at l i a b p q
+
+  -- the places of the first k
+  pub at-of-take : (k : ℕ) (l : List A) (i : ℕ) (a : A) → At (take k l) i a → (i < k) × At l i a
+  at-of-take zero l i a p = absurd p
+  at-of-take (suc k) [] i a p = absurd p
+  at-of-take (suc k) (x ∷ l) zero a p = (omega arith, p)
+  at-of-take (suc k) (x ∷ l) (suc i) a p = let (h, q) = at-of-take k l i a p in (omega arith, q)
+
+  pub take-of-at : (k : ℕ) (l : List A) (i : ℕ) (a : A) → i < k → At l i a → At (take k l) i a
+  take-of-at zero l i a h p = absurd (not-suc-le-zero h)
+  take-of-at (suc k) [] i a h p = absurd p
+  take-of-at (suc k) (x ∷ l) zero a h p = p
+  take-of-at (suc k) (x ∷ l) (suc i) a h p = take-of-at k l i a (le-of-suc-le-suc h) p
 
   -- rows are distinct where no two places have rows with the same number
   pub distinct-of-places : (num : A → ℕ) (rows : List A) → ((i j : ℕ) (x y : A) → At rows i x → At rows j y → num x ≡ num y → i ≡ j) → Distinct num rows

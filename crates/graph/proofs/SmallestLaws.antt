@@ -11,7 +11,7 @@ use Rattle.graph.specs.Lists.{_∈_, At}
 use Rattle.graph.specs.Path.{Cycle, Holds}
 use Rattle.graph.specs.Acyclic.{into}
 use Rattle.graph.specs.Order.{Distinct, next, write, greedy}
-use Rattle.graph.specs.Smallest.{placed, left, Ready, NextAfter}
+use Rattle.graph.specs.Smallest.{placed, left, Ready, NextAfter, SmallestFirst}
 use Rattle.graph.proofs.TestLaws.{true-not-false, false-of-not-true}
 use Rattle.graph.proofs.MemberLaws.{any-of-member, member-of-any}
 use Rattle.graph.proofs.PathLaws.{cycle-of-larger}
@@ -117,6 +117,33 @@ module _ {A : Type 0} (arrow : A → A → Bool) (num : A → ℕ) (rows : List 
           let w : write arrow num (suc k) (left num rows before) ≡ num x ∷ rest x = rw (write-of-next arrow num k (left num rows before) x e, left-of-one-more num rows before x) in
           rw w (next-at-of-cons before (rest x) x n (next-after-of-next before x e) (r x) i (rw w at p))
 
-  -- at each place stands the number of the row to place after those that stand before
-  pub next-of-place : (i n : ℕ) → At (greedy arrow num rows) i n → (x : A) × (num x ≡ n) × NextAfter (Holds arrow) num rows (take i (greedy arrow num rows)) x
-  next-of-place i n p = rw greedy-of-left (next-at-of-write (length rows) [] n i (rw greedy-of-left at p))
+  pub greedy-smallest-first : SmallestFirst (Holds arrow) num rows (greedy arrow num rows)
+  greedy-smallest-first i n p = rw greedy-of-left (next-at-of-write (length rows) [] n i (rw greedy-of-left at p))
+
+-- what stands at each place is settled by what stands before it, so two such orders are one
+module _ {A : Type 0} (Arrow : A → A → Type 0) (num : A → ℕ) (rows : List A) where
+  abbrev SmallestAfter : List ℕ → List ℕ → Type 0
+  SmallestAfter before l = (i n : ℕ) → At l i n → (x : A) × (num x ≡ n) × NextAfter Arrow num rows (before ++ take i l) x
+
+  smallest-tail : (before : List ℕ) (n : ℕ) (l : List ℕ) → SmallestAfter before (n ∷ l) → SmallestAfter (before ++ n ∷ []) l
+  smallest-tail before n l h i m p = let (x, e, k) = h (suc i) m p in (x, e, rw (append-snoc before n (take i l)) k)
+
+  same-head : (before : List ℕ) (n m : ℕ) (l k : List ℕ) → SmallestAfter before (n ∷ l) → SmallestAfter before (m ∷ k) → n ≡ m
+  same-head before n m l k h g =
+      let (x, e, p) = h zero n refl in
+      let (y, f, q) = g zero m refl in
+      let a = rw (append-nil before) at p in
+      let b = rw (append-nil before) at q in
+      omega (arith, a .least y (b .row) (b .new) (b .ready), b .least x (a .row) (a .new) (a .ready))
+
+  same-of-smallest-after : (before l k : List ℕ) → length l ≡ length k → SmallestAfter before l → SmallestAfter before k → l ≡ k
+  same-of-smallest-after before [] [] e h g = refl
+  same-of-smallest-after before [] (m ∷ k) e h g = absurd (omega arith)
+  same-of-smallest-after before (n ∷ l) [] e h g = absurd (omega arith)
+  same-of-smallest-after before (n ∷ l) (m ∷ k) e h g =
+      let p = same-head before n m l k h g in
+      let q = same-of-smallest-after (before ++ n ∷ []) l k (omega arith) (smallest-tail before n l h) (rw p (smallest-tail before m k g)) in
+      cc
+
+  pub smallest-first-unique : (l k : List ℕ) → length l ≡ length k → SmallestFirst Arrow num rows l → SmallestFirst Arrow num rows k → l ≡ k
+  smallest-first-unique l k = same-of-smallest-after [] l k

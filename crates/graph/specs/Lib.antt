@@ -4,3 +4,5 @@ pub mod Acyclic
 pub mod Order
 pub mod Smallest
 pub mod Reach
+pub mod Check
+pub mod Reached

@@ -1,0 +1,76 @@
+-- The rule for an order against the graph's order, its test, and what the check answers: one of the three ways, and only one.
+-- Assumes nothing.
+use mathlib.Core.Path.{_≡_}
+use mathlib.Core.Bool.{true}
+use mathlib.Core.List.{List, map}
+use mathlib.Core.Logic.{_↔_}
+use Prim.Native.Nat.{ℕ}
+use Rattle.graph.specs.Lists.{Once}
+use Rattle.graph.specs.Path.{Cycle, Holds}
+use Rattle.graph.specs.Order.{OrderOf, greedy}
+use Rattle.graph.proofs.PathLaws.{cycle-of-weaker}
+use Rattle.graph.proofs.OrderLaws.{no-cycle-of-order}
+use Rattle.graph.proofs.CountLaws.{distinct-of-once}
+use Rattle.graph.proofs.GreedyLaws.{order-of-greedy}
+use Rattle.graph.proofs.CheckLaws.{orderb→order, order→orderb}
+use Rattle.rows.specs.Rows.{Row, numberOf, RowArrow, rowArrowb, rowsOf}
+use Rattle.rows.specs.Good.{GoodRows, goodb}
+use Rattle.rows.specs.Reply.{Reply}
+use Rattle.rows.specs.Reply.Reply.{refused, yes, no}
+use Rattle.rows.specs.Order.{InOrder, Checked, inOrderb, checkResult}
+use Rattle.rows.proofs.ArrowLaws.{arrowb→arrow, arrow→arrowb}
+use Rattle.rows.proofs.GoodLaws.{goodb→good, good→goodb}
+use Rattle.rows.proofs.JudgedLaws.{judged-of-tests, judged-unique}
+
+module _ {rows : List Row} {order : List ℕ} where
+  pub order-of-inOrder : InOrder rows order → OrderOf RowArrow numberOf rows order
+  order-of-inOrder o = record { once = o .once; each = o .each; only = o .only; arrows = λ q r m n a i j p k. o .earlier q r m n (a .0) (a .1) i j p k }
+
+  pub inOrder-of-order : OrderOf RowArrow numberOf rows order → InOrder rows order
+  inOrder-of-order o = record { once = o .once; each = o .each; only = o .only; earlier = λ q r m n s b i j p k. o .arrows q r m n (s, b) i j p k }
+
+  -- the same, with the arrow as a test
+  pub test-order-of-inOrder : InOrder rows order → OrderOf (Holds rowArrowb) numberOf rows order
+  test-order-of-inOrder o = record {
+    once = o .once;
+    each = o .each;
+    only = o .only;
+    arrows = λ q r m n e i j p k. let a = arrowb→arrow (q .tickets) (r .tickets) e in o .earlier q r m n (a .0) (a .1) i j p k;
+  }
+
+  pub inOrder-of-test-order : OrderOf (Holds rowArrowb) numberOf rows order → InOrder rows order
+  inOrder-of-test-order o = record {
+    once = o .once;
+    each = o .each;
+    only = o .only;
+    earlier = λ q r m n s b i j p k. o .arrows q r m n (arrow→arrowb (q .tickets) (r .tickets) (s, b)) i j p k;
+  }
+
+module _ (rows : List Row) (d : Once (map numberOf rows)) where
+  pub inOrderb→inOrder : (order : List ℕ) → inOrderb rows order ≡ true → InOrder rows order
+  unfolding inOrderb
+  inOrderb→inOrder order e = inOrder-of-test-order (orderb→order rowArrowb numberOf rows d order e)
+
+  pub inOrder→inOrderb : (order : List ℕ) → InOrder rows order → inOrderb rows order ≡ true
+  unfolding inOrderb
+  inOrder→inOrderb order o = order→orderb rowArrowb numberOf rows d order (test-order-of-inOrder o)
+
+  -- an order exists exactly if there is no cycle, and the greedy choice is one
+  pub inOrder-of-greedy : ¬ Cycle RowArrow rows → InOrder rows (greedy rowArrowb numberOf rows)
+  inOrder-of-greedy n = inOrder-of-test-order (order-of-greedy rowArrowb numberOf rows (distinct-of-once numberOf rows d)
+      (λ c. n (cycle-of-weaker (λ q r. arrowb→arrow (q .tickets) (r .tickets)) c)))
+
+  pub order-exists-iff-no-cycle : ((order : List ℕ) × InOrder rows order) ↔ (¬ Cycle RowArrow rows)
+  order-exists-iff-no-cycle = (
+    λ p. no-cycle-of-order RowArrow numberOf rows (p .0) (order-of-inOrder (p .1)),
+    λ n. (greedy rowArrowb numberOf rows, inOrder-of-greedy n),
+  )
+
+module _ (flat order : List ℕ) where
+  pub check-result : Checked flat order (checkResult flat order)
+  unfolding checkResult
+  check-result = judged-of-tests (refused 13) yes no (GoodRows flat) (InOrder (rowsOf flat) order) (goodb flat) (inOrderb (rowsOf flat) order)
+      (goodb→good flat) (good→goodb flat) (λ g. inOrderb→inOrder (rowsOf flat) (g .apart .numbers) order) (λ g. inOrder→inOrderb (rowsOf flat) (g .apart .numbers) order)
+
+  pub check-unique : (q r : Reply) → Checked flat order q → Checked flat order r → q ≡ r
+  check-unique = judged-unique (refused 13) yes no (GoodRows flat) (InOrder (rowsOf flat) order)
