@@ -1,0 +1,1 @@
+// The set of sites of a transaction.

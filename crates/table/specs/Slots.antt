@@ -1,0 +1,35 @@
+-- Where a number stands in the table, which slot is free, and which rows are kept and active.
+use mathlib.Core.Bool.{Bool, cond, _&&_}
+use mathlib.Core.List.{List, [], _∷_}
+use Prim.Native.Nat.{ℕ, suc}
+use lib.Dec.{eqb}
+use Rattle.graph.specs.Lists.{keep}
+use Rattle.table.specs.declared.Row.{Row}
+use Rattle.table.specs.declared.Table.{Table}
+use Rattle.table.specs.Records.{isFree, inUse, active, committed, rowAt}
+
+-- the place of the first that passes; past the last where none does
+unfoldable pub firstAt : {A : Type 0} → (A → Bool) → List A → ℕ
+firstAt f [] = 0
+firstAt f (x ∷ xs) = cond (f x) 0 (suc (firstAt f xs))
+
+abbrev pub hasNumber : ℕ → Row → Bool
+hasNumber n r = inUse r && eqb (r .number .0) n
+
+-- the slot of a number, and its row
+unfoldable pub slotOf : Table → ℕ → ℕ
+slotOf t n = firstAt (hasNumber n) (t .rows)
+
+abbrev pub rowOfNumber : Table → ℕ → Row
+rowOfNumber t n = rowAt t (slotOf t n)
+
+-- the lowest free slot
+unfoldable pub freeSlot : Table → ℕ
+freeSlot t = firstAt (λ (r : Row). isFree (r .state)) (t .rows)
+
+-- the committed transactions that the table keeps, and the active ones, by slot
+unfoldable pub kept : Table → List Row
+kept t = keep committed (t .rows)
+
+unfoldable pub activeRows : Table → List Row
+activeRows t = keep active (t .rows)
