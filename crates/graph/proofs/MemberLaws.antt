@@ -2,7 +2,7 @@
 use mathlib.Core.Path.{_≡_, refl}
 use mathlib.Core.Bool.{Bool, true, false, cond, false≢true}
 use mathlib.Core.List.{List, [], _∷_, List·Memᴰ·head as here, List·Memᴰ·tail as there, List·Memᴰ·not-nil, List·Memᴰ·cases-cons}
-use mathlib.Core.Logic.{_⊎_, inl, inr}
+use mathlib.Core.Logic.{_⊎_, _↔_, inl, inr}
 use Prim.Native.Nat.{ℕ, suc, _≤_, _<_}
 use native.Mathlib.Decide.{ℕ-discrete}
 use native.Mathlib.Omega.{arith}
@@ -83,9 +83,19 @@ module _ {A : Type 0} (f : A → Bool) where
           each x (here p) = rw p e
           each x (there m) = h x m
 
+-- a test on some member stands for a condition on some member
+pub iff-any : {A : Type 0} (f : A → Bool) (P : A → Type 0) → ((x : A) → (f x ≡ true) ↔ P x) → (rs : List A) → (anyOf f rs ≡ true) ↔ ((x : A) × (x ∈ rs) × P x)
+iff-any f P h rs = (
+  λ e. let (x, m, p) = member-of-any f rs e in (x, m, h x .0 p),
+  λ p. any-of-member f (p .1) (h (p .0) .1 (p .2)),
+)
+
 pub nil-of-isNil : {A : Type 0} (rs : List A) → isNil rs ≡ true → rs ≡ []
 nil-of-isNil [] e = refl
 nil-of-isNil (x ∷ xs) e = absurd (false≢true e)
+
+pub iff-nil : {A : Type 0} (rs : List A) → (isNil rs ≡ true) ↔ (rs ≡ [])
+iff-nil rs = (nil-of-isNil rs, λ e. rw e)
 
 pub nil-of-length : {A : Type 0} (rs : List A) → length rs ≤ 0 → rs ≡ []
 nil-of-length [] h = refl

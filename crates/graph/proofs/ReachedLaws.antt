@@ -14,7 +14,7 @@ use Rattle.graph.specs.Acyclic.{into}
 use Rattle.graph.specs.Reached.{Reached, spread, rounds, reachedb}
 use Rattle.graph.proofs.TestLaws.{true-not-false, either-of-or, or-of-left, or-of-right}
 use Rattle.graph.proofs.MemberLaws.{any-of-member, member-of-any, kept-of-member, member-of-kept, length-keep-le}
-use Rattle.graph.proofs.PathLaws.{start-of-path, path-of-two}
+use Rattle.graph.proofs.PathLaws.{start-of-path, path-of-two, path-of-weaker}
 
 module _ {A : Type 0} where
   -- a weaker test keeps no fewer, and where it keeps no more it is no weaker
@@ -42,6 +42,12 @@ module _ {A : Type 0} where
         go false true b d h l below k = absurd (omega arith)
         go false false b d h l below (here e) = absurd (true-not-false t (rw e d))
         go false false b d h l below (there n) = below h n
+
+-- an arrow from what is reached reaches further
+pub reached-of-next : {A : Type 0} {Arrow : A → A → Type 0} {Mark : A → Type 0} {rs : List A} {a r : A}
+    → r ∈ rs → Reached Arrow Mark rs a → a ∈ rs → Arrow a r → Reached Arrow Mark rs r
+reached-of-next m (b, n, e, inl p) k h = (b, n, e, inr (one n m (rw (sym p) at h)))
+reached-of-next m (b, n, e, inr q) k h = (b, n, e, inr (path-of-two q (one k m h)))
 
 module _ {A : Type 0} (arrow : A → A → Bool) (mark : A → Bool) (rs : List A) where
   abbrev found : ℕ → List A
@@ -95,10 +101,6 @@ module _ {A : Type 0} (arrow : A → A → Bool) (mark : A → Bool) (rs : List 
   abbrev Marked : A → Type 0
   Marked a = mark a ≡ true
 
-  reached-of-arrow : {a r : A} → r ∈ rs → Reached (Holds arrow) Marked rs a → a ∈ rs → arrow a r ≡ true → Reached (Holds arrow) Marked rs r
-  reached-of-arrow m (b, n, e, inl p) k h = (b, n, e, inr (one n m (rw (sym p) at h)))
-  reached-of-arrow m (b, n, e, inr q) k h = (b, n, e, inr (path-of-two q (one k m h)))
-
   -- what a round finds is reached: by induction on the round
   reached-of-spread : (s : List A) → ((a : A) → a ∈ s → (a ∈ rs) × Reached (Holds arrow) Marked rs a) → (r : A) → r ∈ rs → finds s r ≡ true → Reached (Holds arrow) Marked rs r
   unfolding spread
@@ -109,7 +111,7 @@ module _ {A : Type 0} (arrow : A → A → Bool) (mark : A → Bool) (rs : List 
       go (inr k) =
           let (a, n, f) = member-of-any (λ s. arrow s r) s k in
           let (l, w) = h a n in
-          reached-of-arrow m w l f
+          reached-of-next m w l f
 
   reached-of-found : (k : ℕ) (a : A) → a ∈ found k → (a ∈ rs) × Reached (Holds arrow) Marked rs a
   unfolding rounds
@@ -135,3 +137,9 @@ module _ {A : Type 0} (arrow : A → A → Bool) (mark : A → Bool) (rs : List 
   unfolding reachedb spread
   reached→reachedb r (a, m, e, inl p) = rw (sym p) (or-of-left (into arrow (found (length rs)) a) e)
   reached→reachedb r (a, m, e, inr q) = reachedb-of-path (or-of-left (into arrow (found (length rs)) a) e) q
+
+-- a weaker relation and a weaker mark reach the same and more
+pub reached-of-weaker : {A : Type 0} {Arrow Brrow : A → A → Type 0} {Mark Nark : A → Type 0} {rs : List A} {r : A}
+    → ((a b : A) → Arrow a b → Brrow a b) → ((a : A) → Mark a → Nark a) → Reached Arrow Mark rs r → Reached Brrow Nark rs r
+reached-of-weaker f g (a, m, k, inl e) = (a, m, g a k, inl e)
+reached-of-weaker f g (a, m, k, inr p) = (a, m, g a k, inr (path-of-weaker f p))

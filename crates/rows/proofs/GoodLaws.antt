@@ -15,15 +15,11 @@ use Rattle.graph.proofs.PlaceLaws.{at-of-member, member-of-at}
 use Rattle.graph.proofs.CountLaws.{once-of-cons, once-of-tail, new-of-once}
 use Rattle.rows.specs.Arrow.{Tickets, ticketAt, anySite}
 use Rattle.rows.specs.Rows.{Row, numberOf, rowsOf}
-use Rattle.rows.specs.Good.{Apart, GoodRows, sameb, clash, apartb, goodb}
+use Rattle.rows.specs.Good.{Apart, GoodRows, Clash, sameb, clash, apartb, goodb}
 use Rattle.rows.proofs.ArrowLaws.{anySite→site, site→anySite, sameb→same, same→sameb}
 
--- equal numbers, or at some site equal tickets
-abbrev Clash : Row → Row → Type 0
-Clash q r = (q .number ≡ r .number) ⊎ ((s : ℕ) × (0 < ticketAt (q .tickets) s) × (ticketAt (q .tickets) s ≡ ticketAt (r .tickets) s))
-
-clashb→clash : (q r : Row) → clash q r ≡ true → Clash q r
-clashb→clash q r e = go (either-of-or (eqb (q .number) (r .number)) (anySite sameb (q .tickets) (r .tickets)) e)
+pub clash→Clash : (q r : Row) → clash q r ≡ true → Clash q r
+clash→Clash q r e = go (either-of-or (eqb (q .number) (r .number)) (anySite sameb (q .tickets) (r .tickets)) e)
   where
     go : (eqb (q .number) (r .number) ≡ true) ⊎ (anySite sameb (q .tickets) (r .tickets) ≡ true) → Clash q r
     go (inl h) = inl (eqb-true (q .number) (r .number) h)
@@ -35,13 +31,13 @@ clashb→clash q r e = go (either-of-or (eqb (q .number) (r .number)) (anySite s
 sameb-zero : (x : ℕ) → sameb x 0 ≡ false
 sameb-zero x = false-of-not-true (sameb x 0) (λ e. let (p, f) = sameb→same x 0 e in omega arith)
 
-clash→clashb : (q r : Row) → Clash q r → clash q r ≡ true
-clash→clashb q r (inl h) = or-of-left (anySite sameb (q .tickets) (r .tickets)) (eq-eqb (q .number) (r .number) h)
-clash→clashb q r (inr (s, p, f)) = or-of-right (eqb (q .number) (r .number))
+pub Clash→clash : (q r : Row) → Clash q r → clash q r ≡ true
+Clash→clash q r (inl h) = or-of-left (anySite sameb (q .tickets) (r .tickets)) (eq-eqb (q .number) (r .number) h)
+Clash→clash q r (inr (s, p, f)) = or-of-right (eqb (q .number) (r .number))
     (site→anySite sameb (λ y. refl) sameb-zero (q .tickets) (r .tickets) s (same→sameb (ticketAt (q .tickets) s) (ticketAt (r .tickets) s) p f))
 
 -- the first row against the others
-apart-of-cons : (x : Row) (rs : List Row) → ((r : Row) → r ∈ rs → ¬ Clash x r) → Apart rs → Apart (x ∷ rs)
+pub apart-of-cons : (x : Row) (rs : List Row) → ((r : Row) → r ∈ rs → ¬ Clash x r) → Apart rs → Apart (x ∷ rs)
 apart-of-cons x rs n a = record { numbers = once-of-cons (x .number) (map numberOf rs) new (a .numbers); tickets = tickets }
   where
     new : ¬ (x .number ∈ map numberOf rs)
@@ -66,7 +62,7 @@ cons-of-apart x rs a = (
     clashes r (i, p) (inl e) = new-of-once (x .number) (map numberOf rs) (a .numbers) (r .number) (Memᴰ·map numberOf (member-of-at rs i p)) (sym e)
     clashes r (i, p) (inr (s, h, e)) = let k = a .tickets s zero (suc i) x r refl p h e in omega arith
 
-apart-of-nil : Apart []
+pub apart-of-nil : Apart []
 apart-of-nil = record { numbers = λ n i j p q. absurd p; tickets = λ s i j q r p. absurd p }
 
 pub apartb→apart : (rs : List Row) → apartb rs ≡ true → Apart rs
@@ -75,14 +71,14 @@ apartb→apart [] e = apart-of-nil
 apartb→apart (x ∷ rs) e =
     let (a, b) = both-of-and (not (anyOf (clash x) rs)) (apartb rs) e in
     let f = false-of-not (anyOf (clash x) rs) a in
-    apart-of-cons x rs (λ r m k. true-not-false (any-of-member (clash x) m (clash→clashb x r k)) f) (apartb→apart rs b)
+    apart-of-cons x rs (λ r m k. true-not-false (any-of-member (clash x) m (Clash→clash x r k)) f) (apartb→apart rs b)
 
 pub apart→apartb : (rs : List Row) → Apart rs → apartb rs ≡ true
 unfolding apartb
 apart→apartb [] a = refl
 apart→apartb (x ∷ rs) a =
     let (n, b) = cons-of-apart x rs a in
-    let f = false-of-not-true (anyOf (clash x) rs) (λ e. let (r, m, k) = member-of-any (clash x) rs e in n r m (clashb→clash x r k)) in
+    let f = false-of-not-true (anyOf (clash x) rs) (λ e. let (r, m, k) = member-of-any (clash x) rs e in n r m (clash→Clash x r k)) in
     and-of-both (not-of-false f) (apart→apartb rs b)
 
 module _ (flat : List ℕ) where

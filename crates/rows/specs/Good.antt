@@ -2,6 +2,7 @@
 use mathlib.Core.Path.{_≡_}
 use mathlib.Core.Bool.{Bool, true, not, _&&_, _||_}
 use mathlib.Core.List.{List, [], _∷_, map}
+use mathlib.Core.Logic.{_⊎_}
 use Prim.Native.Nat.{ℕ, _<_, _≤_, _%_}
 use lib.Dec.{eqb, leb, ltb}
 use lib.ListN.{length}
@@ -21,6 +22,10 @@ pub record GoodRows (flat : List ℕ) : Type 0 where
   -- no row has the number 0
   pub named : (r : Row) → r ∈ rowsOf flat → 0 < r .number
   pub apart : Apart (rowsOf flat)
+
+-- two rows that may not stand in one table: equal numbers, or at some site equal tickets
+abbrev pub Clash : Row → Row → Type 0
+Clash q r = (q .number ≡ r .number) ⊎ ((s : ℕ) × (0 < ticketAt (q .tickets) s) × (ticketAt (q .tickets) s ≡ ticketAt (r .tickets) s))
 
 -- the same, as tests that compute
 abbrev pub sameb : ℕ → ℕ → Bool

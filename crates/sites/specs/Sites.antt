@@ -15,7 +15,7 @@ listed x i = ltb i 8 && eqb (x / 2 ^ i % 2) 1
 abbrev pub allSites : List ℕ
 allSites = 0 ∷ 1 ∷ 2 ∷ 3 ∷ 4 ∷ 5 ∷ 6 ∷ 7 ∷ []
 
--- the sites of the set, lowest first
+-- the sites of the set, lowest first: of 11, which is 1 + 2 + 8, they are 0, 1 and 3
 unfoldable pub sitesOf : ℕ → List ℕ
 sitesOf x = keep (listed x) allSites
 

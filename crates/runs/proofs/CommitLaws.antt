@@ -1,0 +1,119 @@
+-- An active row is committed: it and the kept rows make no cycle, its last number is the table's, and the highest tickets rise
+-- to its own. Then all that were ever committed make no cycle, and it differs from each of them. Assumes nothing.
+use mathlib.Core.Path.{_≡_, sym, ap, subst}
+use mathlib.Core.Logic.{_≢_, _⊎_, inl, inr}
+use mathlib.Core.List.{List, _∷_, List·Memᴰ·cases-cons}
+use Prim.Native.Nat.{ℕ, _≤_}
+use native.Mathlib.Omega.{arith}
+use Rattle.graph.specs.Lists.{_∈_}
+use Rattle.graph.specs.Path.{Cycle}
+use Rattle.rows.specs.Arrow.{Tickets, ticketAt, Arrow}
+use Rattle.rows.specs.Rows
+use Rattle.rows.specs.Rows.{RowArrow}
+use Rattle.rows.proofs.GoodLaws.{apart-of-cons}
+use Rattle.table.specs.declared.Stage.{Stage}
+use Rattle.table.specs.declared.Row.{Row}
+use Rattle.table.specs.Records.{partAt, ticketsOf}
+use Rattle.table.proofs.RecordLaws.{never}
+use Rattle.runs.specs.History.{entryOf}
+use Rattle.runs.specs.Sound.{IsActive, IsCommitted, num, Has, base, tick, RowSound, PairSound, Past, Still, Gone, EntrySound, Sound}
+use Rattle.runs.proofs.ChangeLaws.{Changed, not-committed, not-free, every, both, there, keeps}
+use Rattle.runs.proofs.NewestLaws.{Keeps, unpointed, no-clash, no-new-cycle}
+
+-- row q, once committed, is row r
+pub record Sealed (last : ℕ) (q r : Row) : Type 0 where
+  pub was : IsActive q
+  pub is : IsCommitted r
+  pub same : entryOf r ≡ entryOf q
+  pub sites : (s : ℕ) → Has q s → Has r s
+  pub bases : (s : ℕ) → base r s ≡ base q s
+  pub ready : (s : ℕ) → Has r s → partAt r s .stage ≡ Stage.Prepared
+  pub mark : r .last .0 ≡ last
+
+module _ {row row′ : ℕ → Row} {i : ℕ} {r : Row} (ch : Changed row i r row′) (last : ℕ) (d : Sealed last (row i) r)
+    (ks : List Rows.Row) (kk : Keeps row ks) (fine : ¬ Cycle RowArrow (entryOf (row i) ∷ ks))
+    (high high′ : ℕ → ℕ) (up : (s : ℕ) → high s ≤ high′ s) (own : (s : ℕ) → tick (row i) s ≤ high′ s)
+    (es : List Rows.Row) (v : Sound row high last es) where
+  num-same : num r ≡ num (row i)
+  unfolding entryOf
+  num-same = ap (λ (y : Rows.Row). y .number) (d .same)
+
+  tickets-same : ticketsOf r ≡ ticketsOf (row i)
+  unfolding entryOf
+  tickets-same = ap (λ (y : Rows.Row). y .tickets) (d .same)
+
+  tick-same : (s : ℕ) → tick r s ≡ tick (row i) s
+  tick-same s = ap (λ (ts : Tickets). ticketAt ts s) tickets-same
+
+  old : RowSound high last (row i)
+  old = v .rows i
+
+  row-sound : RowSound high′ last r
+  row-sound = record {
+    blank = λ f. let z = d .is in never (cc);
+    named = λ n. omega (arith, num-same, old .named (not-free (d .was)));
+    counted = omega (arith, num-same, old .counted);
+    listed = λ s h. d .sites s (old .listed s (omega (arith, tick-same s)));
+    over = λ s h. omega (arith, tick-same s, d .bases s, old .over s (omega (arith, tick-same s)));
+    below = λ c s. omega (arith, tick-same s, own s);
+    ready = λ c. d .ready;
+  }
+
+  rows : (j : ℕ) → RowSound high′ last (row j)
+  rows j = let o = v .rows j in record {
+    blank = o .blank;
+    named = o .named;
+    counted = o .counted;
+    listed = o .listed;
+    over = o .over;
+    below = λ c s. omega (arith, o .below c s, up s);
+    ready = o .ready;
+  }
+
+  left : (j : ℕ) → j ≢ i → PairSound r (row j)
+  left j n = let p = v .pairs i j (λ e. n (sym e)) in record {
+    numbers = λ h. omega (arith, num-same, p .numbers (omega (arith, num-same)));
+    tickets = λ s h. omega (arith, tick-same s, p .tickets s (omega (arith, tick-same s)));
+    later = λ c a h. absurd (omega (arith, v .rows j .counted, d .mark));
+  }
+
+  right : (j : ℕ) → j ≢ i → PairSound (row j) r
+  right j n = let p = v .pairs j i n in record {
+    numbers = λ h. omega (arith, num-same, p .numbers h);
+    tickets = λ s h. omega (arith, tick-same s, p .tickets s h);
+    later = λ c a. absurd (not-committed a (d .is));
+  }
+
+  past : (e : Rows.Row) → Past e (row i) → Past e r
+  past e p = record {
+    unpointed = λ c. subst (λ (y : Tickets). ¬ Arrow y (e .tickets)) (sym tickets-same) (unpointed v i (d .was) e p);
+    other = λ a. absurd (not-committed a (d .is));
+    above = λ a. absurd (not-committed a (d .is));
+  }
+
+  place : (e : Rows.Row) → Still row e ⊎ Gone row e → Still row′ e ⊎ Gone row′ e
+  place e (inl k) = inl (keeps ch (not-committed (d .was)) k)
+  place e (inr g) = inr (every ch (Past e) (past e (g i)) (λ j n. g j))
+
+  newest : EntrySound row′ high′ last (entryOf (row i))
+  unfolding entryOf
+  newest = record {
+    counted = old .counted;
+    below = own;
+    place = inl (i, there ch IsCommitted (d .is), there ch (λ (x : Row). entryOf x ≡ entryOf (row i)) (d .same));
+  }
+
+  entries : (e : Rows.Row) → e ∈ entryOf (row i) ∷ es → EntrySound row′ high′ last e
+  entries e m = elim (List·Memᴰ·cases-cons m) [
+    | inl q ↦ subst (EntrySound row′ high′ last) (sym q) newest
+    | inr n ↦ let o = v .entries e n in record { counted = o .counted; below = λ s. omega (arith, o .below s, up s); place = place e (o .place) }
+  ]
+
+  pub sound-committed : Sound row′ high′ last (entryOf (row i) ∷ es)
+  sound-committed = record {
+    rows = every ch (RowSound high′ last) row-sound (λ j n. rows j);
+    pairs = both ch PairSound left right (v .pairs);
+    entries = entries;
+    apart = apart-of-cons (entryOf (row i)) es (no-clash v i (d .was)) (v .apart);
+    acyclic = no-new-cycle v i (d .was) ks kk fine;
+  }

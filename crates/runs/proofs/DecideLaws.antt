@@ -1,0 +1,111 @@
+-- A decision keeps the invariant: commit, if the candidate and the kept rows make no cycle, else the candidate's slot is freed.
+-- Assumes nothing.
+use mathlib.Core.Path.{_≡_, refl, sym, ap, _∙_}
+use mathlib.Core.Bool.{Bool, true, false}
+use mathlib.Core.List.{List, _∷_, map}
+use mathlib.Core.Logic.{_≢_, _⊎_, inl, inr}
+use Prim.Native.Nat.{ℕ, _<_, _≤_, max}
+use native.Mathlib.Omega.{arith}
+use native.Mathlib.Decide.{decLe}
+use lib.ListN.{length, getD}
+use Rattle.graph.specs.Lists.{_∈_}
+use Rattle.graph.specs.Path.{Cycle}
+use Rattle.graph.proofs.MemberLaws.{member-or-not}
+use Rattle.graph.proofs.TestLaws.{true-or-false, true-not-false}
+use Rattle.graph.proofs.MapLaws.{mapped-cycle-iff}
+use Rattle.rows.specs.Rows
+use Rattle.rows.specs.Rows.{RowArrow}
+use Rattle.sites.specs.Sites.{sitesOf}
+use Rattle.sites.proofs.SitesLaws.{rising-sites, lt-of-member}
+use Rattle.table.specs.declared.Ticket.{Ticket}
+use Rattle.table.specs.declared.Stage.{Stage}
+use Rattle.table.specs.declared.State.{State}
+use Rattle.table.specs.declared.Row.{Row}
+use Rattle.table.specs.declared.Table.{Table}
+use Rattle.table.specs.Records.{ticket, rowAt, partAt, highAt, isPrepared, ticketsOf, Goes}
+use Rattle.table.specs.Slots.{slotOf, rowOfNumber, kept}
+use Rattle.table.specs.Conditions.{Closed, Unknown, NotReady}
+use Rattle.table.specs.Effects.{committedRow, raised, decided}
+use Rattle.table.proofs.RecordLaws.{never, prepared-iff}
+use Rattle.table.proofs.RowLaws.{ticket-part, length-raised, raised-other, raised-listed}
+use Rattle.runs.specs.History.{entryOf}
+use Rattle.runs.specs.Sound.{IsActive, Has, tick, Sound}
+use Rattle.runs.specs.Invariant.{Invariant}
+use Rattle.runs.proofs.ChangeLaws.{not-committed}
+use Rattle.runs.proofs.CommitLaws.{Sealed, sound-committed}
+use Rattle.runs.proofs.ShapeLaws.{shape-set}
+use Rattle.runs.proofs.KnownLaws.{found, changed, keeps-kept}
+use Rattle.runs.proofs.DropLaws.{invariant-freed}
+
+-- no cycle of the rows is no cycle of their entries
+entries-acyclic : (rs : List Row) → ¬ Cycle Goes rs → ¬ Cycle RowArrow (map entryOf rs)
+unfolding entryOf
+entries-acyclic rs n c = n (mapped-cycle-iff entryOf rs RowArrow .1 c)
+
+module _ (t : Table) (es : List Rows.Row) (v : Invariant t es) (n : ℕ) (nc : ¬ Closed t) (nu : ¬ Unknown t n) (nr : ¬ NotReady (rowOfNumber t n)) where
+  abbrev q : Row
+  q = rowOfNumber t n
+
+  abbrev at : ℕ
+  at = slotOf t n
+
+  slot : at < length (t .rows)
+  slot = found t n nu .slot
+
+  is-active : IsActive q
+  is-active = go (q .state) refl
+    where
+      go : (x : State) → q .state ≡ x → IsActive q
+      go State.Free e = absurd (nr (inl (λ a. never (cc))))
+      go State.Active e = e
+      go State.Committed e = absurd (nr (inl (λ a. never (cc))))
+
+  ready : (s : ℕ) → Has q s → partAt q s .stage ≡ Stage.Prepared
+  ready s m = go (true-or-false (isPrepared (partAt q s .stage)))
+    where
+      go : (isPrepared (partAt q s .stage) ≡ true) ⊎ (isPrepared (partAt q s .stage) ≡ false) → partAt q s .stage ≡ Stage.Prepared
+      go (inl e) = prepared-iff (partAt q s .stage) .0 e
+      go (inr e) = absurd (nr (inr (s, m, λ p. true-not-false (prepared-iff (partAt q s .stage) .1 p) e)))
+
+  sealed : Sealed (t .last .0) q (committedRow t q)
+  unfolding committedRow entryOf ticketsOf
+  sealed = record { was = is-active; is = refl; same = refl; sites = λ s m. m; bases = λ s. refl; ready = ready; mark = refl }
+
+  abbrev high′ : ℕ → ℕ
+  high′ s = getD (raised q (sitesOf (q .sites)) (t .high)) s (ticket 0) .0
+
+  raised-at : (s : ℕ) → ((Has q s) × (high′ s ≡ max (highAt t s) (tick q s))) ⊎ ((¬ Has q s) × (high′ s ≡ highAt t s))
+  raised-at s = go (member-or-not s (sitesOf (q .sites)))
+    where
+      go : Has q s ⊎ (¬ Has q s) → ((Has q s) × (high′ s ≡ max (highAt t s) (tick q s))) ⊎ ((¬ Has q s) × (high′ s ≡ highAt t s))
+      go (inl m) =
+          let h : s < length (t .high) = omega (arith, lt-of-member (q .sites) m, v .shape .highs) in
+          inl (m, rw (ticket-part q s) (ap (λ (k : Ticket). k .0) (raised-listed q (sitesOf (q .sites)) (t .high) s (rising-sites (q .sites)) m h)))
+      go (inr m) = inr (m, ap (λ (k : Ticket). k .0) (raised-other q (sitesOf (q .sites)) (t .high) s m))
+
+  up : (s : ℕ) → highAt t s ≤ high′ s
+  up s = elim (raised-at s) [ inl e ↦ omega (arith, e .1) | inr e ↦ omega (arith, e .1) ]
+
+  own : (s : ℕ) → tick q s ≤ high′ s
+  own s = elim (raised-at s) [
+    | inl e ↦ omega (arith, e .1)
+    | inr e ↦ none (decLe (tick q s) 0)
+  ]
+    where
+      none : Dec (tick q s ≤ 0) → tick q s ≤ high′ s
+      none (yes l) = omega arith
+      none (no l) = elim (raised-at s) [ inl e ↦ omega (arith, e .1) | inr e ↦ absurd (e .0 (v .sound .rows at .listed s (omega arith))) ]
+
+  pub invariant-commit : ¬ Cycle Goes (q ∷ kept t) → Invariant (decided t n true .table) (entryOf q ∷ es)
+  unfolding decided committedRow
+  invariant-commit fine = record {
+    shape = shape-set t (decided t n true .table) at (committedRow t q) (v .shape) slot refl refl (length-raised q (sitesOf (q .sites)) (t .high) ∙ v .shape .highs)
+        (v .shape .parts at (omega (arith, slot, v .shape .slots))) (λ f. never (cc)) (v .shape .own at);
+    sound = sound-committed (changed t at (committedRow t q) slot) (t .last .0) sealed (map entryOf (kept t)) (keeps-kept t)
+        (entries-acyclic (q ∷ kept t) fine) (highAt t) high′ up own es (v .sound);
+    shut = λ c. absurd (nc c);
+  }
+
+  pub invariant-cycle : Invariant (decided t n false .table) es
+  unfolding decided
+  invariant-cycle = invariant-freed t es at v nc slot (λ c. absurd (not-committed is-active c))

@@ -1,0 +1,71 @@
+-- Every run keeps the invariant, whatever calls it makes; and so all that it ever committed has an order. Assumes nothing.
+use mathlib.Core.Path.{_≡_, refl, sym, ap, subst, _∙_}
+use mathlib.Core.Bool.{Bool, true, false}
+use mathlib.Core.List.{List, _∷_, map}
+use mathlib.Core.Logic.{_⊎_, inl, inr}
+use Prim.Native.Nat.{ℕ}
+use native.Mathlib.Decide.{ℕ-discrete}
+use Rattle.graph.specs.Path.{Cycle}
+use Rattle.graph.specs.Acyclic.{acyclic}
+use Rattle.rows.specs.Arrow.{arrowb}
+use Rattle.rows.specs.Rows
+use Rattle.rows.specs.Good.{Apart}
+use Rattle.rows.specs.Order.{InOrder}
+use Rattle.rows.proofs.OrderLaws.{order-exists-iff-no-cycle}
+use Rattle.table.specs.declared.Table.{Table}
+use Rattle.table.specs.declared.Answer.{Answer}
+use Rattle.table.specs.declared.Answered.{Answered}
+use Rattle.table.specs.Records.{ticketsOf, Goes}
+use Rattle.table.specs.Slots.{rowOfNumber, kept}
+use Rattle.table.specs.Conditions.{Closed}
+use Rattle.table.specs.Calls.{Call, rules, NoneHolds}
+use Rattle.table.specs.Calls.Call.{openWith, begin, reportTicket, reportPrepared, abort, decide, forget, sweep}
+use Rattle.table.specs.Effects.{decided, effect, step}
+use Rattle.table.proofs.CallLaws.{Steps, Steps.stopped, Steps.passed, step-goes}
+use Rattle.table.proofs.GraphLaws.{no-cycle-iff}
+use Rattle.runs.specs.Run.{Run, Run.start, Run.call, after}
+use Rattle.runs.specs.History.{entryOf, noted, history}
+use Rattle.runs.specs.Invariant.{Invariant}
+use Rattle.runs.proofs.OpenLaws.{invariant-closed, invariant-open, invariant-begin}
+use Rattle.runs.proofs.ReportLaws.{invariant-ticket, invariant-prepared}
+use Rattle.runs.proofs.DropLaws.{invariant-abort, invariant-forget}
+use Rattle.runs.proofs.DecideLaws.{invariant-commit, invariant-cycle}
+use Rattle.runs.proofs.SweepLaws.{invariant-sweep}
+
+pub closed-of-not-not : (t : Table) → ¬ ¬ Closed t → Closed t
+closed-of-not-not t n = elim (ℕ-discrete (t .sites) 0) [ yes e ↦ e | no e ↦ absurd (n e) ]
+
+-- a call that nothing refuses
+invariant-effect : (t : Table) (es : List Rows.Row) (c : Call) → Invariant t es → NoneHolds (rules t c) → Invariant (effect t c .table) (noted t (effect t c .answer) es)
+unfolding rules effect decided
+invariant-effect t es (openWith first floors) v (a, (b, n)) = invariant-open t es first floors v (closed-of-not-not t a) b
+invariant-effect t es (begin sites) v (a, (b, (c, (d, n)))) = invariant-begin t es sites v a b d
+invariant-effect t es (reportTicket m s k) v (a, (b, (c, (d, (e, (f, n)))))) = invariant-ticket t es m s k v a b c d e f
+invariant-effect t es (reportPrepared m s) v (a, (b, (c, (d, n)))) = invariant-prepared t es m s v a b c d
+invariant-effect t es (abort m) v (a, (b, (c, n))) = invariant-abort t es m v a b c
+invariant-effect t es (decide m) v (a, (b, (c, n))) = go (acyclic arrowb (ticketsOf (rowOfNumber t m) ∷ map ticketsOf (kept t))) refl
+  where
+    go : (x : Bool) → acyclic arrowb (ticketsOf (rowOfNumber t m) ∷ map ticketsOf (kept t)) ≡ x → Invariant (decided t m x .table) (noted t (decided t m x .answer) es)
+    go true e = invariant-commit t es v m a b c (no-cycle-iff (rowOfNumber t m) (kept t) .0 e)
+    go false e = invariant-cycle t es v m a b c
+invariant-effect t es (forget m) v (a, (b, (c, (d, n)))) = invariant-forget t es m v a b d
+invariant-effect t es sweep v (a, n) = invariant-sweep t es v a
+
+pub invariant-step : (t : Table) (es : List Rows.Row) (c : Call) → Invariant t es → Invariant (step t c .table) (noted t (step t c .answer) es)
+invariant-step t es c v = go (step-goes t c)
+  where
+    go : Steps t c (step t c) → Invariant (step t c .table) (noted t (step t c .answer) es)
+    go (stopped k f p q) = rw (p, q) v
+    go (passed n e) = rw e (invariant-effect t es c v n)
+
+pub invariant-run : (r : Run) → Invariant (after r) (history r)
+unfolding after history
+invariant-run start = invariant-closed
+invariant-run (call r c) = invariant-step (after r) (history r) c (invariant-run r)
+
+-- all that was committed since the opening, forgotten ones too: different numbers, different tickets at each site, and an order
+pub history-apart : (r : Run) → Apart (history r)
+history-apart r = invariant-run r .sound .apart
+
+pub history-ordered : (r : Run) → (order : List ℕ) × InOrder (history r) order
+history-ordered r = order-exists-iff-no-cycle (history r) (history-apart r .numbers) .1 (invariant-run r .sound .acyclic)

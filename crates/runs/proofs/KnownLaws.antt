@@ -1,0 +1,84 @@
+-- What the checks of a call give, once none of them refused it: the slot of the number, and what it holds. Assumes nothing.
+use mathlib.Core.Path.{_≡_, refl, ap, _∙_}
+use mathlib.Core.Bool.{true, false}
+use mathlib.Core.List.{map, Memᴰ·map, Memᴰ·of-map, List·Memᴰ·not-nil}
+use mathlib.Core.Logic.{_⊎_, inl, inr}
+use Prim.Native.Nat.{ℕ, _<_, _≤_}
+use native.Mathlib.Omega.{arith}
+use native.Mathlib.Decide.{decLe}
+use lib.ListN.{length, getD}
+use Rattle.graph.specs.Lists.{anyOf}
+use Rattle.graph.proofs.TestLaws.{true-or-false}
+use Rattle.sites.proofs.ByteLaws.{sites-zero}
+use Rattle.table.specs.declared.Row.{Row}
+use Rattle.table.specs.declared.Table.{Table}
+use Rattle.table.specs.Records.{noPart, freeRow, pastEnd, rowAt, active, committed, withRow, Goes}
+use Rattle.table.specs.Slots.{hasNumber, slotOf, rowOfNumber, kept, activeRows}
+use Rattle.table.specs.Conditions.{Unknown, HasPred, HeldBack}
+use Rattle.table.proofs.RecordLaws.{active-iff, committed-iff}
+use Rattle.table.proofs.ConditionLaws.{has-number-iff, unknown-iff}
+use Rattle.table.proofs.SlotLaws.{first-found, kept-of-place, place-of-kept, set-cases}
+use Rattle.table.proofs.RowLaws.{ticket-part, getD-replicate-same}
+use Rattle.runs.specs.History.{entryOf}
+use Rattle.runs.specs.Sound.{IsFree, IsActive, IsCommitted, num, tick, Has}
+use Rattle.runs.proofs.ChangeLaws.{Changed}
+use Rattle.runs.proofs.FreeLaws.{Blank}
+use Rattle.runs.proofs.NewestLaws.{Keeps}
+
+-- a number that the table knows: its slot is one of the table's, is not free, and has it
+pub record Found (t : Table) (n : ℕ) : Type 0 where
+  pub slot : slotOf t n < length (t .rows)
+  pub used : ¬ IsFree (rowOfNumber t n)
+  pub named : num (rowOfNumber t n) ≡ n
+
+pub found : (t : Table) (n : ℕ) → ¬ Unknown t n → Found t n
+unfolding slotOf
+found t n u = go (true-or-false (anyOf (hasNumber n) (t .rows)))
+  where
+    go : (anyOf (hasNumber n) (t .rows) ≡ true) ⊎ (anyOf (hasNumber n) (t .rows) ≡ false) → Found t n
+    go (inr e) = absurd (u (unknown-iff t n .0 (rw e)))
+    go (inl e) =
+        let (h, p) = first-found (hasNumber n) (t .rows) pastEnd e in
+        let k = has-number-iff n (rowOfNumber t n) .0 p in
+        record { slot = h; used = k .0; named = k .1 }
+
+-- one slot set
+pub changed : (t : Table) (i : ℕ) (r : Row) → i < length (t .rows) → Changed (rowAt t) i r (rowAt (withRow t i r))
+changed t i r h = set-cases (t .rows) i r pastEnd h
+
+pub tick-zero : (r : Row) → ((s : ℕ) → getD (r .parts) s noPart ≡ noPart) → (s : ℕ) → tick r s ≡ 0
+tick-zero r z s = rw (ticket-part r s, z s)
+
+pub blank-free : Blank freeRow
+blank-free = record { free = refl; number = refl; tickets = tick-zero freeRow (λ s. getD-replicate-same 8 s noPart) }
+
+pub blank-past-end : Blank pastEnd
+blank-past-end = record { free = refl; number = refl; tickets = tick-zero pastEnd (λ s. refl) }
+
+pub no-site-free : (s : ℕ) → ¬ Has freeRow s
+no-site-free s m = List·Memᴰ·not-nil (rw sites-zero at m)
+
+-- the kept rows, by slots
+pub keeps-kept : (t : Table) → Keeps (rowAt t) (map entryOf (kept t))
+unfolding kept
+keeps-kept t = record {
+  has = λ j c. Memᴰ·map entryOf (kept-of-place committed (t .rows) j pastEnd refl (committed-iff (rowAt t j .state) .1 c));
+  only = λ x m.
+      let (r, k, e) = Memᴰ·of-map entryOf (kept t) m in
+      let (j, h, p, q) = place-of-kept committed (t .rows) pastEnd k in
+      (j, committed-iff (rowAt t j .state) .0 (rw p q), ap entryOf p ∙ e);
+}
+
+-- one that no active one holds back: whoever is active has a later number
+pub later-of-free : (t : Table) (r : Row) → ¬ HeldBack t r → (j : ℕ) → IsActive (rowAt t j) → r .last .0 < num (rowAt t j)
+unfolding activeRows
+later-of-free t r h j a = go (decLe (num (rowAt t j)) (r .last .0))
+  where
+    go : Dec (num (rowAt t j) ≤ r .last .0) → r .last .0 < num (rowAt t j)
+    go (yes l) = absurd (h (rowAt t j, kept-of-place active (t .rows) j pastEnd refl (active-iff (rowAt t j .state) .1 a), l))
+    go (no l) = omega arith
+
+-- one without a predecessor among the kept
+pub unpointed-of-free : (t : Table) (r : Row) → ¬ HasPred t r → (j : ℕ) → IsCommitted (rowAt t j) → ¬ Goes (rowAt t j) r
+unfolding kept
+unpointed-of-free t r h j c a = h (rowAt t j, kept-of-place committed (t .rows) j pastEnd refl (committed-iff (rowAt t j .state) .1 c), a)

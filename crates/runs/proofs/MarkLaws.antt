@@ -1,0 +1,77 @@
+-- An active row took a ticket, or was marked prepared: number, sites and bases stayed, and a new ticket stands at a listed site,
+-- above the base, and no other row holds it. Assumes nothing.
+use mathlib.Core.Path.{_≡_, sym}
+use mathlib.Core.Logic.{_≢_, _⊎_, inl, inr}
+use mathlib.Core.List.{List}
+use Prim.Native.Nat.{ℕ, _<_}
+use native.Mathlib.Omega.{arith}
+use Rattle.rows.specs.Arrow.{Tickets}
+use Rattle.rows.specs.Rows
+use Rattle.table.specs.declared.Row.{Row}
+use Rattle.table.specs.Records.{ticketsOf}
+use Rattle.runs.specs.Sound.{IsActive, num, Has, base, tick, Above, RowSound, PairSound, Past, Still, Gone, Sound}
+use Rattle.runs.proofs.ChangeLaws.{Changed, not-committed, not-free, every, both, keeps}
+
+-- what a mark may change in row q to give r, beside the other rows
+pub record Marked (row : ℕ → Row) (i : ℕ) (q r : Row) : Type 0 where
+  pub was : IsActive q
+  pub is : IsActive r
+  pub number : num r ≡ num q
+  pub sites : (s : ℕ) → Has q s → Has r s
+  pub sites′ : (s : ℕ) → Has r s → Has q s
+  pub bases : (s : ℕ) → base r s ≡ base q s
+  pub tickets : (s : ℕ) → (tick r s ≡ tick q s) ⊎ (Has q s × (base q s < tick r s) × ((j : ℕ) → j ≢ i → tick r s ≢ tick (row j) s))
+
+module _ {row row′ : ℕ → Row} {i : ℕ} {r : Row} (ch : Changed row i r row′) (m : Marked row i (row i) r) where
+  above : (ts : Tickets) → Above (row i) ts → Above r ts
+  unfolding Above
+  above ts a s h = omega (arith, a s (m .sites′ s h), m .bases s)
+
+  module _ (high : ℕ → ℕ) (last : ℕ) (es : List Rows.Row) (v : Sound row high last es) where
+    old : RowSound high last (row i)
+    old = v .rows i
+
+    row-sound : RowSound high last r
+    row-sound = record {
+      blank = λ f. absurd (not-free (m .is) f);
+      named = λ n. omega (arith, old .named (not-free (m .was)), m .number);
+      counted = omega (arith, old .counted, m .number);
+      listed = λ s h. elim (m .tickets s) [ inl e ↦ m .sites s (old .listed s (omega arith)) | inr k ↦ m .sites s (k .0) ];
+      over = λ s h. elim (m .tickets s) [ inl e ↦ omega (arith, m .bases s, old .over s (omega arith)) | inr k ↦ omega (arith, m .bases s) ];
+      below = λ c. absurd (not-committed (m .is) c);
+      ready = λ c. absurd (not-committed (m .is) c);
+    }
+
+    left : (j : ℕ) → j ≢ i → PairSound r (row j)
+    left j n = let p = v .pairs i j (λ e. n (sym e)) in record {
+      numbers = λ h. omega (arith, m .number, p .numbers (omega (arith, m .number)));
+      tickets = λ s h. elim (m .tickets s) [ inl e ↦ omega (arith, p .tickets s (omega arith)) | inr k ↦ k .2 j n ];
+      later = λ c. absurd (not-committed (m .is) c);
+    }
+
+    right : (j : ℕ) → j ≢ i → PairSound (row j) r
+    right j n = let p = v .pairs j i n in record {
+      numbers = λ h. omega (arith, m .number, p .numbers h);
+      tickets = λ s h. elim (m .tickets s) [ inl e ↦ omega (arith, p .tickets s h) | inr k ↦ omega (arith, k .2 j n) ];
+      later = λ c a h. above (ticketsOf (row j)) (p .later c (m .was) (omega (arith, m .number)));
+    }
+
+    past : (e : Rows.Row) → Past e (row i) → Past e r
+    past e p = record {
+      unpointed = λ c. absurd (not-committed (m .is) c);
+      other = λ a. omega (arith, m .number, p .other (m .was));
+      above = λ a. above (e .tickets) (p .above (m .was));
+    }
+
+    place : (e : Rows.Row) → Still row e ⊎ Gone row e → Still row′ e ⊎ Gone row′ e
+    place e (inl k) = inl (keeps ch (not-committed (m .was)) k)
+    place e (inr g) = inr (every ch (Past e) (past e (g i)) (λ j n. g j))
+
+    pub sound-marked : Sound row′ high last es
+    sound-marked = record {
+      rows = every ch (RowSound high last) row-sound (λ j n. v .rows j);
+      pairs = both ch PairSound left right (v .pairs);
+      entries = λ e k. let o = v .entries e k in record { counted = o .counted; below = o .below; place = place e (o .place) };
+      apart = v .apart;
+      acyclic = v .acyclic;
+    }

@@ -1,0 +1,153 @@
+-- A ticket reported, and a site prepared: one site of one active row is set, and the invariant stays. Assumes nothing.
+use mathlib.Core.Path.{_≡_, refl, sym, ap, subst, _∙_}
+use mathlib.Core.List.{List}
+use mathlib.Core.Logic.{_≢_, _⊎_, inl, inr}
+use Prim.Native.Nat.{ℕ, _<_, _≤_}
+use native.Mathlib.Omega.{arith}
+use native.Mathlib.Decide.{ℕ-discrete, decLe}
+use lib.ListN.{length, List·getD-eq-default}
+use Rattle.graph.specs.Lists.{_∈_}
+use Rattle.graph.proofs.MemberLaws.{member-or-not}
+use Rattle.graph.proofs.PlaceLaws.{member-of-place}
+use Rattle.rows.specs.Rows
+use Rattle.sites.specs.Sites.{sitesOf}
+use Rattle.sites.proofs.SitesLaws.{lt-of-member}
+use Rattle.table.specs.declared.Ticket.{Ticket}
+use Rattle.table.specs.declared.Stage.{Stage}
+use Rattle.table.specs.declared.State.{State}
+use Rattle.table.specs.declared.Report.{Report}
+use Rattle.table.specs.declared.Step.{Step}
+use Rattle.table.specs.declared.Part.{Part}
+use Rattle.table.specs.declared.Row.{Row}
+use Rattle.table.specs.declared.Table.{Table}
+use Rattle.table.specs.Records.{ticket, pastEnd, rowAt, partAt, highAt, withRow}
+use Rattle.table.specs.Stages.{stepOf}
+use Rattle.table.specs.Slots.{slotOf, rowOfNumber}
+use Rattle.table.specs.Conditions.{Closed, Unknown, NotListed, NoStep, NotAbove, Taken}
+use Rattle.table.specs.Effects.{reported, effect}
+use Rattle.table.specs.Calls.Call.{reportTicket, reportPrepared}
+use Rattle.table.proofs.RecordLaws.{never}
+use Rattle.table.proofs.RowLaws.{ticket-part, reported-same, reported-other, length-reported}
+use Rattle.runs.specs.Sound.{IsFree, IsActive, IsCommitted, num, Has, base, tick, Sound}
+use Rattle.runs.specs.Invariant.{Invariant}
+use Rattle.runs.proofs.MarkLaws.{Marked, sound-marked}
+use Rattle.runs.proofs.ShapeLaws.{shape-set}
+use Rattle.runs.proofs.KnownLaws.{Found, found, changed}
+
+-- what a new ticket may be: the old one, or one at a listed site, above the base, that no other slot holds
+abbrev New : (ℕ → Row) → ℕ → ℕ → ℕ → Type 0
+New row i s k = (k ≡ tick (row i) s) ⊎ (Has (row i) s × (base (row i) s < k) × ((j : ℕ) → j ≢ i → k ≢ tick (row j) s))
+
+module _ (row : ℕ → Row) (i s : ℕ) (p : Report) (k : Ticket) (l : s < length (row i .parts)) (new : New row i s (k .0)) where
+  abbrev r : Row
+  r = reported (row i) s p k
+
+  bases : (u : ℕ) → base r u ≡ base (row i) u
+  bases u = go (ℕ-discrete u s)
+    where
+      go : Dec (u ≡ s) → base r u ≡ base (row i) u
+      go (yes e) = rw e (ap (λ (x : Part). x .base .0) (reported-same (row i) s p k l))
+      go (no n) = ap (λ (x : Part). x .base .0) (reported-other (row i) s p k u n)
+
+  tickets : (u : ℕ) → New row i u (tick r u)
+  tickets u = go (ℕ-discrete u s)
+    where
+      go : Dec (u ≡ s) → New row i u (tick r u)
+      go (yes e) = rw e (subst (New row i s) (sym (ticket-part r s ∙ ap (λ (x : Part). x .ticket .0) (reported-same (row i) s p k l))) new)
+      go (no n) = inl (ticket-part r u ∙ ap (λ (x : Part). x .ticket .0) (reported-other (row i) s p k u n) ∙ sym (ticket-part (row i) u))
+
+  marked : IsActive (row i) → Marked row i (row i) r
+  unfolding reported
+  marked a = record { was = a; is = a; number = refl; sites = λ u h. h; sites′ = λ u h. h; bases = bases; tickets = tickets }
+
+-- a step that the stage table has leads from a site that is not prepared
+not-prepared : (g : Stage) (p : Report) → ¬ (stepOf g p ≡ Step.Refused) → g ≢ Stage.Prepared
+not-prepared Stage.Begun p h e = never (cc)
+not-prepared Stage.Ticketed p h e = never (cc)
+not-prepared Stage.Prepared Report.Ticket h e = h refl
+not-prepared Stage.Prepared Report.Prepared h e = h refl
+
+module _ (t : Table) (es : List Rows.Row) (v : Invariant t es) (n s : ℕ) (p : Report)
+    (nc : ¬ Closed t) (nu : ¬ Unknown t n) (nl : ¬ NotListed (rowOfNumber t n) s) (ns : ¬ NoStep (rowOfNumber t n) s p) where
+  abbrev q : Row
+  q = rowOfNumber t n
+
+  abbrev at : ℕ
+  at = slotOf t n
+
+  has : Has q s
+  has = go (member-or-not s (sitesOf (q .sites)))
+    where
+      go : (s ∈ sitesOf (q .sites)) ⊎ (¬ (s ∈ sitesOf (q .sites))) → s ∈ sitesOf (q .sites)
+      go (inl m) = m
+      go (inr m) = absurd (nl m)
+
+  slot : at < length (t .rows)
+  slot = found t n nu .slot
+
+  inside : s < length (q .parts)
+  inside = omega (arith, lt-of-member (q .sites) has, v .shape .parts at (omega (arith, slot, v .shape .slots)))
+
+  -- a committed one has all its sites prepared, and is done
+  pub is-active : IsActive q
+  is-active = go (q .state) refl
+    where
+      go : (x : State) → q .state ≡ x → IsActive q
+      go State.Free e = absurd (found t n nu .used e)
+      go State.Active e = e
+      go State.Committed e = absurd (not-prepared (partAt q s .stage) p ns (v .sound .rows at .ready e s has))
+
+  invariant-report : (k : Ticket) → New (rowAt t) at s (k .0) → Invariant (withRow t at (reported q s p k)) es
+  unfolding reported
+  invariant-report k new = record {
+    shape = shape-set t (withRow t at (reported q s p k)) at (reported q s p k) (v .shape) slot refl refl (v .shape .highs)
+        (length-reported q s p k ∙ v .shape .parts at (omega (arith, slot, v .shape .slots))) (λ f. let a = is-active in never (cc)) (v .shape .own at);
+    sound = sound-marked (changed t at (reported q s p k) slot) (marked (rowAt t) at s p k inside new is-active) (highAt t) (t .last .0) es (v .sound);
+    shut = λ c. absurd (nc c);
+  }
+
+pub invariant-ticket : (t : Table) (es : List Rows.Row) (n s k : ℕ) → Invariant t es → ¬ Closed t → ¬ Unknown t n → ¬ NotListed (rowOfNumber t n) s
+    → ¬ NoStep (rowOfNumber t n) s Report.Ticket → ¬ NotAbove (rowOfNumber t n) s k → ¬ Taken t n s k → Invariant (effect t (reportTicket n s k) .table) es
+unfolding effect
+invariant-ticket t es n s k v nc nu nl ns na nt =
+    invariant-report t es v n s Report.Ticket nc nu nl ns (ticket k) (inr (has t es v n s Report.Ticket nc nu nl ns, high, other))
+  where
+    q : Row
+    q = rowOfNumber t n
+
+    high : base q s < k
+    high = go (decLe k (base q s))
+      where
+        go : Dec (k ≤ base q s) → base q s < k
+        go (yes l) = absurd (na l)
+        go (no l) = omega arith
+
+    other : (j : ℕ) → j ≢ slotOf t n → k ≢ tick (rowAt t j) s
+    other j d e = go (rowAt t j .state) refl
+      where
+        f : Found t n
+        f = found t n nu
+
+        used : (x : State) → rowAt t j .state ≡ x → x ≢ State.Free → ⊥
+        used x p u = nt (
+          rowAt t j,
+          member-of-place (t .rows) j pastEnd (in-range (decLe (length (t .rows)) j)),
+          (λ z. u (sym p ∙ z)),
+          (λ z. v .sound .pairs (slotOf t n) j (λ w. d (sym w)) .numbers (v .sound .rows (slotOf t n) .named (f .used)) (f .named ∙ sym z)),
+          (sym (ticket-part (rowAt t j) s) ∙ sym e),
+        )
+          where
+            in-range : Dec (length (t .rows) ≤ j) → j < length (t .rows)
+            in-range (yes l) = absurd (u (sym p ∙ ap (λ (r : Row). r .state) (List·getD-eq-default (t .rows) pastEnd l)))
+            in-range (no l) = omega arith
+
+        go : (x : State) → rowAt t j .state ≡ x → ⊥
+        go State.Free p = omega (arith, v .sound .rows j .blank p s, high)
+        go State.Active p = used State.Active p (λ z. never (cc))
+        go State.Committed p = used State.Committed p (λ z. never (cc))
+
+pub invariant-prepared : (t : Table) (es : List Rows.Row) (n s : ℕ) → Invariant t es → ¬ Closed t → ¬ Unknown t n → ¬ NotListed (rowOfNumber t n) s
+    → ¬ NoStep (rowOfNumber t n) s Report.Prepared → Invariant (effect t (reportPrepared n s) .table) es
+unfolding effect
+invariant-prepared t es n s v nc nu nl ns =
+    invariant-report t es v n s Report.Prepared nc nu nl ns (partAt (rowOfNumber t n) s .ticket) (inl (sym (ticket-part (rowOfNumber t n) s)))

@@ -1,0 +1,28 @@
+-- All that a run committed, forgotten ones too: a row for each commit answer, with the tickets that it had then.
+use mathlib.Core.List.{List, [], _∷_}
+use Prim.Native.Nat.{ℕ}
+use Rattle.rows.specs.Rows
+use Rattle.table.specs.declared.Row.{Row}
+use Rattle.table.specs.declared.Table.{Table}
+use Rattle.table.specs.declared.Answer.{Answer}
+use Rattle.table.specs.Records.{ticketsOf}
+use Rattle.table.specs.Slots.{rowOfNumber}
+use Rattle.runs.specs.Run.{Run, Run.start, Run.call, after, answerTo}
+
+-- a row of the table as a row of a ticket table
+unfoldable pub entryOf : Row → Rows.Row
+entryOf r = record { number = r .number .0; tickets = ticketsOf r }
+
+-- the list with the one that this answer commits
+abbrev pub noted : Table → Answer → List Rows.Row → List Rows.Row
+noted t Answer.Done es = es
+noted t (Answer.Begun n) es = es
+noted t (Answer.Commit n) es = entryOf (rowOfNumber t (n .0)) ∷ es
+noted t (Answer.Cycle n) es = es
+noted t (Answer.Swept k) es = es
+noted t (Answer.Refused k) es = es
+
+-- the latest first
+unfoldable pub history : Run → List Rows.Row
+history start = []
+history (call r c) = noted (after r) (answerTo r c) (history r)

@@ -1,0 +1,27 @@
+-- The invariant of a table: the shape of its lists, and what specs/Sound.antt says of its slots and sites.
+use mathlib.Core.Path.{_≡_}
+use mathlib.Core.List.{List, []}
+use Prim.Native.Nat.{ℕ, _≤_, _<_}
+use lib.ListN.{length}
+use Rattle.rows.specs.Rows
+use Rattle.table.specs.declared.Table.{Table}
+use Rattle.table.specs.Records.{freeRow, rowAt, highAt}
+use Rattle.table.specs.Conditions.{Closed}
+use Rattle.runs.specs.Sound.{IsFree, Has, Sound}
+
+pub record Shape (t : Table) : Type 0 where
+  -- 32 slots of 8 sites each, and 8 highest tickets
+  pub slots : length (t .rows) ≡ 32
+  pub parts : (i : ℕ) → i < 32 → length (rowAt t i .parts) ≡ 8
+  pub highs : length (t .high) ≡ 8
+  -- a free slot holds only zeros
+  pub zeros : (i : ℕ) → i < 32 → IsFree (rowAt t i) → rowAt t i ≡ freeRow
+  -- transactions list the table's own sites
+  pub sites : t .sites ≤ 8
+  pub own : (i s : ℕ) → Has (rowAt t i) s → s < t .sites
+
+pub record Invariant (t : Table) (es : List Rows.Row) : Type 0 where
+  pub shape : Shape t
+  pub sound : Sound (rowAt t) (highAt t) (t .last .0) es
+  -- before the opening nothing was committed
+  pub shut : Closed t → es ≡ []

@@ -1,0 +1,4 @@
+pub mod Run
+pub mod History
+pub mod Sound
+pub mod Invariant

@@ -1,0 +1,88 @@
+-- A run of calls from the closed table on, and what can be read off it: which call was made when, and what it was answered.
+use mathlib.Core.Path.{_≡_}
+use mathlib.Core.List.{List, [], _∷_}
+use mathlib.Core.Logic.{_⊎_, _≢_}
+use Prim.Native.Nat.{ℕ, _+_}
+use Rattle.table.specs.declared.State.{State}
+use Rattle.table.specs.declared.Row.{Row}
+use Rattle.table.specs.declared.Table.{Table}
+use Rattle.table.specs.declared.Answer.{Answer}
+use Rattle.table.specs.Records.{number, closed, rowAt}
+use Rattle.table.specs.Calls.{Call}
+use Rattle.table.specs.Calls.Call.{openWith, begin, reportTicket, reportPrepared, abort, decide, forget, sweep}
+use Rattle.table.specs.Effects.{step}
+
+-- the calls of a run, the latest last
+pub data Run : Type 0 where
+  start : Run
+  call : Run → Call → Run
+
+-- the table after a run, and what the next call would be answered
+unfoldable pub after : Run → Table
+after start = closed
+after (call r c) = step (after r) c .table
+
+abbrev pub answerTo : Run → Call → Answer
+answerTo r c = step (after r) c .answer
+
+-- at some step of the run this held of the table before it, the call and its answer
+unfoldable pub Happened : (Table → Call → Answer → Type 0) → Run → Type 0
+Happened P start = ⊥
+Happened P (call r c) = P (after r) c (answerTo r c) ⊎ Happened P r
+
+-- the table holds the number, as active or as committed
+abbrev pub Holds : State → Table → ℕ → Type 0
+Holds st t n = (i : ℕ) × (rowAt t i .state ≡ st) × (rowAt t i .number .0 ≡ n)
+
+abbrev pub Active : Table → ℕ → Type 0
+Active = Holds State.Active
+
+abbrev pub Kept : Table → ℕ → Type 0
+Kept = Holds State.Committed
+
+abbrev pub Known : Table → ℕ → Type 0
+Known t n = Active t n ⊎ Kept t n
+
+-- what a step is, told by its call and its answer
+abbrev pub Opens : ℕ → List ℕ → Table → Call → Answer → Type 0
+Opens first floors t c a = (c ≡ openWith first floors) × (a ≡ Answer.Done)
+
+abbrev pub Begins : ℕ → ℕ → Table → Call → Answer → Type 0
+Begins n sites t c a = (c ≡ begin sites) × (a ≡ Answer.Begun (number n))
+
+abbrev pub TakesTicket : ℕ → ℕ → ℕ → Table → Call → Answer → Type 0
+TakesTicket n s k t c a = (c ≡ reportTicket n s k) × (a ≡ Answer.Done)
+
+abbrev pub Prepares : ℕ → ℕ → Table → Call → Answer → Type 0
+Prepares n s t c a = (c ≡ reportPrepared n s) × (a ≡ Answer.Done)
+
+abbrev pub Commits : ℕ → Table → Call → Answer → Type 0
+Commits n t c a = a ≡ Answer.Commit (number n)
+
+-- aborted, also as one that made a cycle
+abbrev pub Aborts : ℕ → Table → Call → Answer → Type 0
+Aborts n t c a = ((c ≡ abort n) × (a ≡ Answer.Done)) ⊎ (a ≡ Answer.Cycle (number n))
+
+-- forgotten, by its number or by a sweep, which had it in the table and left it out
+abbrev pub Forgets : ℕ → Table → Call → Answer → Type 0
+Forgets n t c a = ((c ≡ forget n) × (a ≡ Answer.Done)) ⊎ ((c ≡ sweep) × Known t n × (¬ Known (step t c .table) n))
+
+-- it is over, and in the table no more
+abbrev pub Over : Run → ℕ → Type 0
+Over r n = Happened (Aborts n) r ⊎ Happened (Forgets n) r
+
+abbrev pub BegunIn : Run → ℕ → Type 0
+BegunIn r n = (sites : ℕ) × Happened (Begins n sites) r
+
+-- how many begins were answered with a number
+unfoldable pub begins : Run → ℕ
+begins start = 0
+begins (call r c) = begins r + isBegun (answerTo r c)
+  where
+    isBegun : Answer → ℕ
+    isBegun Answer.Done = 0
+    isBegun (Answer.Begun n) = 1
+    isBegun (Answer.Commit n) = 0
+    isBegun (Answer.Cycle n) = 0
+    isBegun (Answer.Swept k) = 0
+    isBegun (Answer.Refused k) = 0
