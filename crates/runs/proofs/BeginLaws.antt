@@ -5,16 +5,19 @@ use mathlib.Core.Logic.{_≢_, _⊎_, inl, inr}
 use mathlib.Core.List.{List}
 use Prim.Native.Nat.{ℕ, _+_, _≤_}
 use native.Mathlib.Omega.{arith}
+use Rattle.graph.specs.Lists.{_∈_}
 use Rattle.rows.specs.Arrow.{Tickets, ticketAt}
 use Rattle.rows.specs.Rows
 use Rattle.table.specs.declared.Row.{Row}
 use Rattle.table.specs.Records.{ticketsOf}
+use Rattle.table.specs.Slots.{entryOf}
 use Rattle.runs.specs.Sound.{IsActive, IsCommitted, num, Has, base, tick, Above, RowSound, PairSound, Past, Still, Gone, EntrySound, Sound}
 use Rattle.runs.proofs.ChangeLaws.{Changed, not-committed, not-free, every, both, keeps}
 
 pub record Fresh (high : ℕ → ℕ) (last : ℕ) (r : Row) : Type 0 where
   pub is : IsActive r
   pub number : num r ≡ last + 1
+  pub unmarked : r .last .0 ≡ 0
   pub empty : (s : ℕ) → tick r s ≡ 0
   pub bases : (s : ℕ) → Has r s → base r s ≡ high s
 
@@ -29,6 +32,7 @@ module _ {row row′ : ℕ → Row} {i : ℕ} {r : Row} (ch : Changed row i r ro
     blank = λ x. absurd (not-free (f .is) x);
     named = λ n. omega (arith, f .number);
     counted = omega (arith, f .number);
+    marked = omega (arith, f .unmarked);
     listed = λ s h. absurd (omega (arith, f .empty s));
     over = λ s h. absurd (omega (arith, f .empty s));
     below = λ c. absurd (not-committed (f .is) c);
@@ -40,6 +44,7 @@ module _ {row row′ : ℕ → Row} {i : ℕ} {r : Row} (ch : Changed row i r ro
     blank = o .blank;
     named = o .named;
     counted = omega (arith, o .counted);
+    marked = omega (arith, o .marked);
     listed = o .listed;
     over = o .over;
     below = o .below;
@@ -76,6 +81,7 @@ module _ {row row′ : ℕ → Row} {i : ℕ} {r : Row} (ch : Changed row i r ro
     rows = every ch (RowSound high (last + 1)) row-sound (λ j n. rows j);
     pairs = both ch PairSound left right (v .pairs);
     entries = λ e k. let o = v .entries e k in record { counted = omega (arith, o .counted); below = o .below; place = place e o (o .place) };
+    noted = every ch (λ (x : Row). IsCommitted x → entryOf x ∈ es) (λ c. absurd (not-committed (f .is) c)) (λ j n. v .noted j);
     apart = v .apart;
     acyclic = v .acyclic;
   }

@@ -5,8 +5,8 @@ use Prim.Native.Nat.{ℕ}
 use Rattle.rows.specs.Rows
 use Rattle.table.specs.declared.State.{State}
 use Rattle.table.specs.declared.Row.{Row}
+use Rattle.table.specs.Slots.{entryOf}
 use Rattle.table.proofs.RecordLaws.{never}
-use Rattle.runs.specs.History.{entryOf}
 use Rattle.runs.specs.Sound.{IsCommitted, Still}
 
 -- slot i became r, the others stayed

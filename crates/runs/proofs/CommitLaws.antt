@@ -2,7 +2,7 @@
 -- to its own. Then all that were ever committed make no cycle, and it differs from each of them. Assumes nothing.
 use mathlib.Core.Path.{_≡_, sym, ap, subst}
 use mathlib.Core.Logic.{_≢_, _⊎_, inl, inr}
-use mathlib.Core.List.{List, _∷_, List·Memᴰ·cases-cons}
+use mathlib.Core.List.{List, _∷_, List·Memᴰ·cases-cons, List·Memᴰ·head as here, List·Memᴰ·tail as behind}
 use Prim.Native.Nat.{ℕ, _≤_}
 use native.Mathlib.Omega.{arith}
 use Rattle.graph.specs.Lists.{_∈_}
@@ -13,9 +13,9 @@ use Rattle.rows.specs.Rows.{RowArrow}
 use Rattle.rows.proofs.GoodLaws.{apart-of-cons}
 use Rattle.table.specs.declared.Stage.{Stage}
 use Rattle.table.specs.declared.Row.{Row}
+use Rattle.table.specs.Slots.{entryOf}
 use Rattle.table.specs.Records.{partAt, ticketsOf}
 use Rattle.table.proofs.RecordLaws.{never}
-use Rattle.runs.specs.History.{entryOf}
 use Rattle.runs.specs.Sound.{IsActive, IsCommitted, num, Has, base, tick, RowSound, PairSound, Past, Still, Gone, EntrySound, Sound}
 use Rattle.runs.proofs.ChangeLaws.{Changed, not-committed, not-free, every, both, there, keeps}
 use Rattle.runs.proofs.NewestLaws.{Keeps, unpointed, no-clash, no-new-cycle}
@@ -53,6 +53,7 @@ module _ {row row′ : ℕ → Row} {i : ℕ} {r : Row} (ch : Changed row i r ro
     blank = λ f. let z = d .is in never (cc);
     named = λ n. omega (arith, num-same, old .named (not-free (d .was)));
     counted = omega (arith, num-same, old .counted);
+    marked = omega (arith, d .mark);
     listed = λ s h. d .sites s (old .listed s (omega (arith, tick-same s)));
     over = λ s h. omega (arith, tick-same s, d .bases s, old .over s (omega (arith, tick-same s)));
     below = λ c s. omega (arith, tick-same s, own s);
@@ -64,6 +65,7 @@ module _ {row row′ : ℕ → Row} {i : ℕ} {r : Row} (ch : Changed row i r ro
     blank = o .blank;
     named = o .named;
     counted = o .counted;
+    marked = o .marked;
     listed = o .listed;
     over = o .over;
     below = λ c s. omega (arith, o .below c s, up s);
@@ -114,6 +116,7 @@ module _ {row row′ : ℕ → Row} {i : ℕ} {r : Row} (ch : Changed row i r ro
     rows = every ch (RowSound high′ last) row-sound (λ j n. rows j);
     pairs = both ch PairSound left right (v .pairs);
     entries = entries;
+    noted = every ch (λ (x : Row). IsCommitted x → entryOf x ∈ entryOf (row i) ∷ es) (λ c. here (d .same)) (λ j n c. behind (v .noted j c));
     apart = apart-of-cons (entryOf (row i)) es (no-clash v i (d .was)) (v .apart);
     acyclic = no-new-cycle v i (d .was) ks kk fine;
   }

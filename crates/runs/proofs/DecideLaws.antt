@@ -23,12 +23,11 @@ use Rattle.table.specs.declared.State.{State}
 use Rattle.table.specs.declared.Row.{Row}
 use Rattle.table.specs.declared.Table.{Table}
 use Rattle.table.specs.Records.{ticket, rowAt, partAt, highAt, isPrepared, ticketsOf, Goes}
-use Rattle.table.specs.Slots.{slotOf, rowOfNumber, kept}
+use Rattle.table.specs.Slots.{slotOf, rowOfNumber, kept, entryOf}
 use Rattle.table.specs.Conditions.{Closed, Unknown, NotReady}
 use Rattle.table.specs.Effects.{committedRow, raised, decided}
 use Rattle.table.proofs.RecordLaws.{never, prepared-iff}
 use Rattle.table.proofs.RowLaws.{ticket-part, length-raised, raised-other, raised-listed}
-use Rattle.runs.specs.History.{entryOf}
 use Rattle.runs.specs.Sound.{IsActive, Has, tick, Sound}
 use Rattle.runs.specs.Invariant.{Invariant}
 use Rattle.runs.proofs.ChangeLaws.{not-committed}

@@ -9,11 +9,10 @@ use Rattle.table.specs.declared.State.{State}
 use Rattle.table.specs.declared.Row.{Row}
 use Rattle.table.specs.declared.Table.{Table}
 use Rattle.table.specs.Records.{freeRow, rowAt, highAt, withRow, Goes}
-use Rattle.table.specs.Slots.{slotOf, rowOfNumber}
+use Rattle.table.specs.Slots.{slotOf, rowOfNumber, entryOf}
 use Rattle.table.specs.Conditions.{Closed, Unknown, MayNotForget}
 use Rattle.table.specs.Effects.{freed}
 use Rattle.table.proofs.RecordLaws.{never}
-use Rattle.runs.specs.History.{entryOf}
 use Rattle.runs.specs.Sound.{IsFree, IsActive, IsCommitted, num, Past, Gone, Sound}
 use Rattle.runs.specs.Invariant.{Invariant}
 use Rattle.runs.proofs.ChangeLaws.{Changed, not-committed, not-free, every}

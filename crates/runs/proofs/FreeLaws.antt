@@ -7,15 +7,16 @@ use Prim.Native.Nat.{ℕ}
 use native.Mathlib.Omega.{arith}
 use Rattle.rows.specs.Rows
 use Rattle.table.specs.declared.Row.{Row}
+use Rattle.table.specs.Slots.{entryOf}
 use Rattle.table.proofs.RecordLaws.{never}
-use Rattle.runs.specs.History.{entryOf}
-use Rattle.runs.specs.Sound.{IsFree, IsCommitted, num, tick, Has, RowSound, PairSound, Past, Still, Gone, Sound}
+use Rattle.runs.specs.Sound.{IsFree, IsCommitted, num, tick, RowSound, PairSound, Past, Still, Gone, Sound}
 
 -- a free row: no number, no tickets
 pub record Blank (r : Row) : Type 0 where
   pub free : IsFree r
   pub number : num r ≡ 0
   pub tickets : (s : ℕ) → tick r s ≡ 0
+  pub last : r .last .0 ≡ 0
 
 module _ {f : Row} (b : Blank f) where
   pub blank-row : (high : ℕ → ℕ) (last : ℕ) → RowSound high last f
@@ -23,6 +24,7 @@ module _ {f : Row} (b : Blank f) where
     blank = λ x. b .tickets;
     named = λ n. absurd (n (b .free));
     counted = omega (arith, b .number);
+    marked = omega (arith, b .last);
     listed = λ s h. absurd (omega (arith, b .tickets s));
     over = λ s h. absurd (omega (arith, b .tickets s));
     below = λ c. let z = b .free in never (cc);
@@ -64,6 +66,7 @@ module _ (row row′ : ℕ → Row) (freed : (i : ℕ) → (row′ i ≡ row i) 
       rows = every (RowSound high last) (λ i b. blank-row b high last) (v .rows);
       pairs = both (v .pairs);
       entries = λ e m. let k = v .entries e m in record { counted = k .counted; below = k .below; place = place e (k .place) };
+      noted = λ i c. elim (freed i) [ inl e ↦ rw e (v .noted i (rw e at c)) | inr b ↦ let z = b .free in never (cc) ];
       apart = v .apart;
       acyclic = v .acyclic;
     }

@@ -16,7 +16,7 @@ use Rattle.table.specs.declared.Table.{Table}
 use Rattle.table.specs.declared.Answer.{Answer}
 use Rattle.table.specs.declared.Answered.{Answered}
 use Rattle.table.specs.Records.{ticketsOf, Goes}
-use Rattle.table.specs.Slots.{rowOfNumber, kept}
+use Rattle.table.specs.Slots.{rowOfNumber, kept, entryOf}
 use Rattle.table.specs.Conditions.{Closed}
 use Rattle.table.specs.Calls.{Call, rules, NoneHolds}
 use Rattle.table.specs.Calls.Call.{openWith, begin, reportTicket, reportPrepared, abort, decide, forget, sweep}
@@ -24,7 +24,7 @@ use Rattle.table.specs.Effects.{decided, effect, step}
 use Rattle.table.proofs.CallLaws.{Steps, Steps.stopped, Steps.passed, step-goes}
 use Rattle.table.proofs.GraphLaws.{no-cycle-iff}
 use Rattle.runs.specs.Run.{Run, Run.start, Run.call, after}
-use Rattle.runs.specs.History.{entryOf, noted, history}
+use Rattle.runs.specs.History.{noted, history}
 use Rattle.runs.specs.Invariant.{Invariant}
 use Rattle.runs.proofs.OpenLaws.{invariant-closed, invariant-open, invariant-begin}
 use Rattle.runs.proofs.ReportLaws.{invariant-ticket, invariant-prepared}

@@ -13,13 +13,12 @@ use Rattle.sites.proofs.ByteLaws.{sites-zero}
 use Rattle.table.specs.declared.Row.{Row}
 use Rattle.table.specs.declared.Table.{Table}
 use Rattle.table.specs.Records.{noPart, freeRow, pastEnd, rowAt, active, committed, withRow, Goes}
-use Rattle.table.specs.Slots.{hasNumber, slotOf, rowOfNumber, kept, activeRows}
+use Rattle.table.specs.Slots.{hasNumber, slotOf, rowOfNumber, kept, activeRows, entryOf}
 use Rattle.table.specs.Conditions.{Unknown, HasPred, HeldBack}
 use Rattle.table.proofs.RecordLaws.{active-iff, committed-iff}
 use Rattle.table.proofs.ConditionLaws.{has-number-iff, unknown-iff}
 use Rattle.table.proofs.SlotLaws.{first-found, kept-of-place, place-of-kept, set-cases}
 use Rattle.table.proofs.RowLaws.{ticket-part, getD-replicate-same}
-use Rattle.runs.specs.History.{entryOf}
 use Rattle.runs.specs.Sound.{IsFree, IsActive, IsCommitted, num, tick, Has}
 use Rattle.runs.proofs.ChangeLaws.{Changed}
 use Rattle.runs.proofs.FreeLaws.{Blank}
@@ -50,10 +49,10 @@ pub tick-zero : (r : Row) → ((s : ℕ) → getD (r .parts) s noPart ≡ noPart
 tick-zero r z s = rw (ticket-part r s, z s)
 
 pub blank-free : Blank freeRow
-blank-free = record { free = refl; number = refl; tickets = tick-zero freeRow (λ s. getD-replicate-same 8 s noPart) }
+blank-free = record { free = refl; number = refl; tickets = tick-zero freeRow (λ s. getD-replicate-same 8 s noPart); last = refl }
 
 pub blank-past-end : Blank pastEnd
-blank-past-end = record { free = refl; number = refl; tickets = tick-zero pastEnd (λ s. refl) }
+blank-past-end = record { free = refl; number = refl; tickets = tick-zero pastEnd (λ s. refl); last = refl }
 
 pub no-site-free : (s : ℕ) → ¬ Has freeRow s
 no-site-free s m = List·Memᴰ·not-nil (rw sites-zero at m)

@@ -12,3 +12,4 @@ pub mod DropLaws
 pub mod DecideLaws
 pub mod SweepLaws
 pub mod InvariantLaws
+pub mod KeptLaws

@@ -5,11 +5,13 @@ use mathlib.Core.Logic.{_≢_, _⊎_, inl, inr}
 use mathlib.Core.List.{List}
 use Prim.Native.Nat.{ℕ, _<_}
 use native.Mathlib.Omega.{arith}
+use Rattle.graph.specs.Lists.{_∈_}
 use Rattle.rows.specs.Arrow.{Tickets}
 use Rattle.rows.specs.Rows
 use Rattle.table.specs.declared.Row.{Row}
 use Rattle.table.specs.Records.{ticketsOf}
-use Rattle.runs.specs.Sound.{IsActive, num, Has, base, tick, Above, RowSound, PairSound, Past, Still, Gone, Sound}
+use Rattle.table.specs.Slots.{entryOf}
+use Rattle.runs.specs.Sound.{IsActive, IsCommitted, num, Has, base, tick, Above, RowSound, PairSound, Past, Still, Gone, Sound}
 use Rattle.runs.proofs.ChangeLaws.{Changed, not-committed, not-free, every, both, keeps}
 
 -- what a mark may change in row q to give r, beside the other rows
@@ -17,6 +19,7 @@ pub record Marked (row : ℕ → Row) (i : ℕ) (q r : Row) : Type 0 where
   pub was : IsActive q
   pub is : IsActive r
   pub number : num r ≡ num q
+  pub last : r .last .0 ≡ q .last .0
   pub sites : (s : ℕ) → Has q s → Has r s
   pub sites′ : (s : ℕ) → Has r s → Has q s
   pub bases : (s : ℕ) → base r s ≡ base q s
@@ -36,6 +39,7 @@ module _ {row row′ : ℕ → Row} {i : ℕ} {r : Row} (ch : Changed row i r ro
       blank = λ f. absurd (not-free (m .is) f);
       named = λ n. omega (arith, old .named (not-free (m .was)), m .number);
       counted = omega (arith, old .counted, m .number);
+      marked = omega (arith, old .marked, m .last);
       listed = λ s h. elim (m .tickets s) [ inl e ↦ m .sites s (old .listed s (omega arith)) | inr k ↦ m .sites s (k .0) ];
       over = λ s h. elim (m .tickets s) [ inl e ↦ omega (arith, m .bases s, old .over s (omega arith)) | inr k ↦ omega (arith, m .bases s) ];
       below = λ c. absurd (not-committed (m .is) c);
@@ -72,6 +76,7 @@ module _ {row row′ : ℕ → Row} {i : ℕ} {r : Row} (ch : Changed row i r ro
       rows = every ch (RowSound high last) row-sound (λ j n. v .rows j);
       pairs = both ch PairSound left right (v .pairs);
       entries = λ e k. let o = v .entries e k in record { counted = o .counted; below = o .below; place = place e (o .place) };
+      noted = every ch (λ (x : Row). IsCommitted x → entryOf x ∈ es) (λ c. absurd (not-committed (m .is) c)) (λ j n. v .noted j);
       apart = v .apart;
       acyclic = v .acyclic;
     }

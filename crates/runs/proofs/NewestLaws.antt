@@ -14,7 +14,7 @@ use Rattle.rows.specs.Rows.{RowArrow}
 use Rattle.rows.specs.Good.{Clash}
 use Rattle.table.specs.declared.Row.{Row}
 use Rattle.table.specs.Records.{ticketsOf}
-use Rattle.runs.specs.History.{entryOf}
+use Rattle.table.specs.Slots.{entryOf}
 use Rattle.runs.specs.Sound.{IsActive, IsCommitted, num, tick, Above, Past, Still, Gone, Sound}
 use Rattle.runs.proofs.ChangeLaws.{not-committed, not-free}
 

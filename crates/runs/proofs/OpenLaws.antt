@@ -41,6 +41,7 @@ sound-empty row high last b = record {
   rows = λ i. blank-row (b i) high last;
   pairs = λ i j n. blank-left (b i) (row j);
   entries = λ e m. absurd (List·Memᴰ·not-nil m);
+  noted = λ i c. let z = b i .free in never (cc);
   apart = apart-of-nil;
   acyclic = λ c. no-path-of-nil (c .1);
 }
@@ -115,6 +116,7 @@ module _ (t : Table) (sites : ℕ) where
   fresh = record {
     is = refl;
     number = refl;
+    unmarked = refl;
     empty = λ s. ticket-part (newRow t sites) s ∙ new-part s .0;
     bases = λ s m. new-part s .1 m;
   }

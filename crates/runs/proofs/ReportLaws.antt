@@ -58,7 +58,7 @@ module _ (row : ℕ → Row) (i s : ℕ) (p : Report) (k : Ticket) (l : s < leng
 
   marked : IsActive (row i) → Marked row i (row i) r
   unfolding reported
-  marked a = record { was = a; is = a; number = refl; sites = λ u h. h; sites′ = λ u h. h; bases = bases; tickets = tickets }
+  marked a = record { was = a; is = a; number = refl; last = refl; sites = λ u h. h; sites′ = λ u h. h; bases = bases; tickets = tickets }
 
 -- a step that the stage table has leads from a site that is not prepared
 not-prepared : (g : Stage) (p : Report) → ¬ (stepOf g p ≡ Step.Refused) → g ≢ Stage.Prepared

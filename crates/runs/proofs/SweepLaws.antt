@@ -16,13 +16,12 @@ use Rattle.rows.specs.Rows
 use Rattle.table.specs.declared.Row.{Row}
 use Rattle.table.specs.declared.Table.{Table}
 use Rattle.table.specs.Records.{freeRow, pastEnd, rowAt, highAt, committed, withRows, Goes}
-use Rattle.table.specs.Slots.{kept}
+use Rattle.table.specs.Slots.{kept, entryOf}
 use Rattle.table.specs.Conditions.{Closed, HeldBack}
 use Rattle.table.specs.Effects.{stays, sweptRow}
 use Rattle.table.proofs.RecordLaws.{never, committed-iff}
 use Rattle.table.proofs.SlotLaws.{kept-of-place}
 use Rattle.table.proofs.GraphLaws.{stays-iff}
-use Rattle.runs.specs.History.{entryOf}
 use Rattle.runs.specs.Sound.{IsCommitted, Past, Gone}
 use Rattle.runs.specs.Invariant.{Invariant}
 use Rattle.runs.proofs.FreeLaws.{Blank, sound-freed, blank-past}

@@ -2,16 +2,10 @@
 use mathlib.Core.List.{List, [], _∷_}
 use Prim.Native.Nat.{ℕ}
 use Rattle.rows.specs.Rows
-use Rattle.table.specs.declared.Row.{Row}
 use Rattle.table.specs.declared.Table.{Table}
 use Rattle.table.specs.declared.Answer.{Answer}
-use Rattle.table.specs.Records.{ticketsOf}
-use Rattle.table.specs.Slots.{rowOfNumber}
+use Rattle.table.specs.Slots.{rowOfNumber, entryOf}
 use Rattle.runs.specs.Run.{Run, Run.start, Run.call, after, answerTo}
-
--- a row of the table as a row of a ticket table
-unfoldable pub entryOf : Row → Rows.Row
-entryOf r = record { number = r .number .0; tickets = ticketsOf r }
 
 -- the list with the one that this answer commits
 abbrev pub noted : Table → Answer → List Rows.Row → List Rows.Row

@@ -15,8 +15,8 @@ use Rattle.sites.specs.Sites.{sitesOf}
 use Rattle.table.specs.declared.Stage.{Stage}
 use Rattle.table.specs.declared.State.{State}
 use Rattle.table.specs.declared.Row.{Row}
+use Rattle.table.specs.Slots.{entryOf}
 use Rattle.table.specs.Records.{partAt, ticketsOf}
-use Rattle.runs.specs.History.{entryOf}
 
 -- what a row says of itself, and of a site
 abbrev pub IsFree : Row → Type 0
@@ -51,6 +51,7 @@ pub record RowSound (high : ℕ → ℕ) (last : ℕ) (r : Row) : Type 0 where
   -- numbers were given by the table
   pub named : ¬ IsFree r → 0 < num r
   pub counted : num r ≤ last
+  pub marked : r .last .0 ≤ last
   -- a ticket stands at a listed site, above the base there
   pub listed : (s : ℕ) → 0 < tick r s → Has r s
   pub over : (s : ℕ) → 0 < tick r s → base r s < tick r s
@@ -90,6 +91,8 @@ module _ (row : ℕ → Row) where
     pub rows : (i : ℕ) → RowSound high last (row i)
     pub pairs : (i j : ℕ) → i ≢ j → PairSound (row i) (row j)
     pub entries : (e : Rows.Row) → e ∈ es → EntrySound high last e
+    -- what a slot holds as committed was committed
+    pub noted : (i : ℕ) → IsCommitted (row i) → entryOf (row i) ∈ es
     -- all that was ever committed differs, and makes no cycle
     pub apart : Apart es
     pub acyclic : ¬ Cycle RowArrow es

@@ -1,12 +1,14 @@
--- Where a number stands in the table, which slot is free, and which rows are kept and active.
+-- Where a number stands in the table, which slot is free, which rows are active, and which are kept, also as a ticket table.
 use mathlib.Core.Bool.{Bool, cond, _&&_}
-use mathlib.Core.List.{List, [], _∷_}
+use mathlib.Core.List.{List, [], _∷_, map}
 use Prim.Native.Nat.{ℕ, suc}
 use lib.Dec.{eqb}
 use Rattle.graph.specs.Lists.{keep}
+use Rattle.rows.specs.Rows
+use Rattle.rows.specs.Rows.{flatOf}
 use Rattle.table.specs.declared.Row.{Row}
 use Rattle.table.specs.declared.Table.{Table}
-use Rattle.table.specs.Records.{isFree, inUse, active, committed, rowAt}
+use Rattle.table.specs.Records.{isFree, inUse, active, committed, rowAt, ticketsOf}
 
 -- the place of the first that passes; past the last where none does
 unfoldable pub firstAt : {A : Type 0} → (A → Bool) → List A → ℕ
@@ -33,3 +35,14 @@ kept t = keep committed (t .rows)
 
 unfoldable pub activeRows : Table → List Row
 activeRows t = keep active (t .rows)
+
+-- a row as a row of a ticket table, and the kept ones as such a table: RULES, Orders
+unfoldable pub entryOf : Row → Rows.Row
+entryOf r = record { number = r .number .0; tickets = ticketsOf r }
+
+abbrev pub keptRows : Table → List Rows.Row
+keptRows t = map entryOf (kept t)
+
+-- the same, nine entries a row
+abbrev pub keptFlat : Table → List ℕ
+keptFlat t = flatOf (keptRows t)
