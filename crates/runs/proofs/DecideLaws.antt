@@ -51,8 +51,8 @@ module _ (t : Table) (es : List Rows.Row) (v : Invariant t es) (n : ℕ) (nc : �
   slot : at < length (t .rows)
   slot = found t n nu .slot
 
-  is-active : IsActive q
-  is-active = go (q .state) refl
+  pub is-ready : IsActive q
+  is-ready = go (q .state) refl
     where
       go : (x : State) → q .state ≡ x → IsActive q
       go State.Free e = absurd (nr (inl (λ a. never (cc))))
@@ -68,12 +68,12 @@ module _ (t : Table) (es : List Rows.Row) (v : Invariant t es) (n : ℕ) (nc : �
 
   sealed : Sealed (t .last .0) q (committedRow t q)
   unfolding committedRow entryOf ticketsOf
-  sealed = record { was = is-active; is = refl; same = refl; sites = λ s m. m; bases = λ s. refl; ready = ready; mark = refl }
+  sealed = record { was = is-ready; is = refl; same = refl; sites = λ s m. m; bases = λ s. refl; ready = ready; mark = refl }
 
   abbrev high′ : ℕ → ℕ
   high′ s = getD (raised q (sitesOf (q .sites)) (t .high)) s (ticket 0) .0
 
-  raised-at : (s : ℕ) → ((Has q s) × (high′ s ≡ max (highAt t s) (tick q s))) ⊎ ((¬ Has q s) × (high′ s ≡ highAt t s))
+  pub raised-at : (s : ℕ) → ((Has q s) × (high′ s ≡ max (highAt t s) (tick q s))) ⊎ ((¬ Has q s) × (high′ s ≡ highAt t s))
   raised-at s = go (member-or-not s (sitesOf (q .sites)))
     where
       go : Has q s ⊎ (¬ Has q s) → ((Has q s) × (high′ s ≡ max (highAt t s) (tick q s))) ⊎ ((¬ Has q s) × (high′ s ≡ highAt t s))
@@ -107,4 +107,4 @@ module _ (t : Table) (es : List Rows.Row) (v : Invariant t es) (n : ℕ) (nc : �
 
   pub invariant-cycle : Invariant (decided t n false .table) es
   unfolding decided
-  invariant-cycle = invariant-freed t es at v nc slot (λ c. absurd (not-committed is-active c))
+  invariant-cycle = invariant-freed t es at v nc slot (λ c. absurd (not-committed is-ready c))

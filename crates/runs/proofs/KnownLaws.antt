@@ -1,24 +1,26 @@
 -- What the checks of a call give, once none of them refused it: the slot of the number, and what it holds. Assumes nothing.
-use mathlib.Core.Path.{_≡_, refl, ap, _∙_}
+use mathlib.Core.Path.{_≡_, refl, sym, ap, _∙_}
 use mathlib.Core.Bool.{true, false}
 use mathlib.Core.List.{map, Memᴰ·map, Memᴰ·of-map, List·Memᴰ·not-nil}
-use mathlib.Core.Logic.{_⊎_, inl, inr}
+use mathlib.Core.Logic.{_↔_, _⊎_, inl, inr}
 use Prim.Native.Nat.{ℕ, _<_, _≤_}
 use native.Mathlib.Omega.{arith}
 use native.Mathlib.Decide.{decLe}
-use lib.ListN.{length, getD}
+use lib.ListN.{length, getD, List·getD-eq-default}
 use Rattle.graph.specs.Lists.{anyOf}
-use Rattle.graph.proofs.TestLaws.{true-or-false}
+use Rattle.graph.proofs.TestLaws.{true-or-false, true-not-false}
+use Rattle.graph.proofs.PlaceLaws.{member-of-place, place-of-member}
 use Rattle.sites.proofs.ByteLaws.{sites-zero}
 use Rattle.table.specs.declared.Row.{Row}
 use Rattle.table.specs.declared.Table.{Table}
 use Rattle.table.specs.Records.{noPart, freeRow, pastEnd, rowAt, active, committed, withRow, Goes}
 use Rattle.table.specs.Slots.{hasNumber, slotOf, rowOfNumber, kept, activeRows, entryOf}
-use Rattle.table.specs.Conditions.{Unknown, HasPred, HeldBack}
+use Rattle.table.specs.Conditions.{Unknown, unknown, HasPred, HeldBack}
 use Rattle.table.proofs.RecordLaws.{active-iff, committed-iff}
 use Rattle.table.proofs.ConditionLaws.{has-number-iff, unknown-iff}
 use Rattle.table.proofs.SlotLaws.{first-found, kept-of-place, place-of-kept, set-cases}
 use Rattle.table.proofs.RowLaws.{ticket-part, getD-replicate-same}
+use Rattle.runs.specs.Run.{Known}
 use Rattle.runs.specs.Sound.{IsFree, IsActive, IsCommitted, num, tick, Has}
 use Rattle.runs.proofs.ChangeLaws.{Changed}
 use Rattle.runs.proofs.FreeLaws.{Blank}
@@ -81,3 +83,26 @@ later-of-free t r h j a = go (decLe (num (rowAt t j)) (r .last .0))
 pub unpointed-of-free : (t : Table) (r : Row) → ¬ HasPred t r → (j : ℕ) → IsCommitted (rowAt t j) → ¬ Goes (rowAt t j) r
 unfolding kept
 unpointed-of-free t r h j c a = h (rowAt t j, kept-of-place committed (t .rows) j pastEnd refl (committed-iff (rowAt t j .state) .1 c), a)
+
+-- a slot that is in use is one of the table's
+pub slot-of-used : (t : Table) (i : ℕ) → ¬ IsFree (rowAt t i) → i < length (t .rows)
+slot-of-used t i f = go (decLe (length (t .rows)) i)
+  where
+    go : Dec (length (t .rows) ≤ i) → i < length (t .rows)
+    go (yes l) = absurd (f (ap (λ (r : Row). r .state) (List·getD-eq-default (t .rows) pastEnd l)))
+    go (no l) = omega arith
+
+pub known-iff : (t : Table) (n : ℕ) → Known t n ↔ (¬ Unknown t n)
+known-iff t n = (
+  λ k u. u (rowAt t (k .0)) (member-of-place (t .rows) (k .0) pastEnd (slot-of-used t (k .0) (k .1))) (k .1) (k .2),
+  λ u. let f = found t n u in (slotOf t n, f .used, f .named),
+)
+
+pub unknown-of-not-known : (t : Table) (n : ℕ) → ¬ Known t n → Unknown t n
+unknown-of-not-known t n k q m f e = let (i, h, p) = place-of-member pastEnd m in k (i, (λ z. f (ap (λ (x : Row). x .state) (sym p) ∙ z)), ap (λ (x : Row). x .number .0) p ∙ e)
+
+pub known-or-not : (t : Table) (n : ℕ) → Known t n ⊎ (¬ Known t n)
+known-or-not t n = elim (true-or-false (unknown t n)) [
+  | inl e ↦ inr (λ k. known-iff t n .0 k (unknown-iff t n .0 e))
+  | inr e ↦ inl (known-iff t n .1 (λ u. true-not-false (unknown-iff t n .1 u) e))
+]

@@ -13,3 +13,12 @@ pub mod DecideLaws
 pub mod SweepLaws
 pub mod InvariantLaws
 pub mod KeptLaws
+pub mod StepLaws
+pub mod CensusLaws
+pub mod PresentLaws
+pub mod RowFollowLaws
+pub mod RowReportLaws
+pub mod RowsFollowLaws
+pub mod CountLaws
+pub mod BesideLaws
+pub mod FollowLaws

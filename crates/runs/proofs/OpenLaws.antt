@@ -6,7 +6,6 @@ use Prim.Native.Nat.{ℕ, zero, suc, _+_, _<_, _≤_}
 use native.Mathlib.Omega.{arith}
 use native.Mathlib.Decide.{decLt}
 use lib.ListN.{length, getD, replicate, length-set, length-replicate, getD-replicate, List·getD-eq-default}
-use mathlib.Core.Bool.{true}
 use Rattle.graph.specs.Lists.{_∈_, anyOf}
 use Rattle.graph.proofs.TestLaws.{true-of-not-false}
 use Rattle.graph.proofs.MemberLaws.{member-or-not}
@@ -75,7 +74,7 @@ module _ (t : Table) (free : t .rows ≡ replicate 32 freeRow) where
       none i u (no l) m = no-site-free u (rw (past-slot i (omega arith)) at m)
 
 pub invariant-closed : Invariant closed []
-invariant-closed = record { shape = shape-empty closed refl refl (omega arith); sound = sound-empty (rowAt closed) (highAt closed) 0 (all-blank closed refl); shut = λ c. refl }
+invariant-closed = record { shape = shape-empty closed refl refl (omega arith); sound = sound-empty (rowAt closed) (highAt closed) 0 (all-blank closed refl); shut = λ c. (refl, refl) }
 
 length-padded : (k : ℕ) (fs : List ℕ) → length (padded k fs) ≡ k
 unfolding padded
@@ -85,10 +84,10 @@ length-padded (suc k) (f ∷ fs) = ap suc (length-padded k fs)
 
 pub invariant-open : (t : Table) (es : List Rows.Row) (first : ℕ) (floors : List ℕ) → Invariant t es → Closed t → ¬ BadOpening first floors → Invariant (opened first floors) es
 unfolding opened
-invariant-open t es first floors v c b = subst (Invariant (opened first floors)) (sym (v .shut c)) (record {
+invariant-open t es first floors v c b = subst (Invariant (opened first floors)) (sym (v .shut c .0)) (record {
   shape = shape-empty (opened first floors) refl (length-padded 8 floors) few;
   sound = sound-empty (rowAt (opened first floors)) (highAt (opened first floors)) _ (all-blank (opened first floors) refl);
-  shut = λ k. refl;
+  shut = λ k. absurd (b (inl k));
 })
   where
     few : length floors ≤ 8
@@ -97,13 +96,17 @@ invariant-open t es first floors v c b = subst (Invariant (opened first floors))
         at-most : ¬ (8 < length floors) → length floors ≤ 8
         at-most n = omega arith
 
+pub free-after-open : (first : ℕ) (floors : List ℕ) (i : ℕ) → Blank (rowAt (opened first floors) i)
+unfolding opened
+free-after-open first floors = all-blank (opened first floors) refl
+
 -- begin
 module _ (t : Table) (sites : ℕ) where
   new-length : length (newRow t sites .parts) ≡ 8
   unfolding newRow
   new-length = length-based (t .high) (sitesOf sites) (replicate 8 noPart)
 
-  new-part : (s : ℕ) → (partAt (newRow t sites) s .ticket .0 ≡ 0) × (s ∈ sitesOf sites → partAt (newRow t sites) s .base .0 ≡ highAt t s)
+  pub new-part : (s : ℕ) → (partAt (newRow t sites) s .ticket .0 ≡ 0) × (s ∈ sitesOf sites → partAt (newRow t sites) s .base .0 ≡ highAt t s)
   unfolding newRow
   new-part s = go (member-or-not s (sitesOf sites))
     where
@@ -121,8 +124,16 @@ module _ (t : Table) (sites : ℕ) where
     bases = λ s m. new-part s .1 m;
   }
 
+-- the lowest free slot is one of the table's, and free
+pub begin-slot : (t : Table) → ¬ Full t → (freeSlot t < length (t .rows)) × IsFree (rowAt t (freeSlot t))
+unfolding freeSlot
+begin-slot t nf =
+    let e = true-of-not-false (anyOf (λ (r : Row). isFree (r .state)) (t .rows)) (λ e. nf (full-iff t .0 (rw e))) in
+    let (h, f) = first-found (λ (r : Row). isFree (r .state)) (t .rows) pastEnd e in
+    (h, free-iff (rowAt t (freeSlot t) .state) .0 f)
+
 pub invariant-begin : (t : Table) (es : List Rows.Row) (sites : ℕ) → Invariant t es → ¬ Closed t → ¬ BadSites t sites → ¬ Full t → Invariant (effect t (begin sites) .table) es
-unfolding effect newRow freeSlot
+unfolding effect newRow
 invariant-begin t es sites v nc bs nf = record {
   shape = shape-set t (withRow (withLast t (number (t .last .0 + 1))) (freeSlot t) (newRow t sites)) (freeSlot t) (newRow t sites) (v .shape) slot refl refl (v .shape .highs)
       (new-length t sites) (λ f. never (cc)) (λ s m. own s m (decLt s (t .sites)));
@@ -130,14 +141,11 @@ invariant-begin t es sites v nc bs nf = record {
   shut = λ c. absurd (nc c);
 }
   where
-    some-free : anyOf (λ (r : Row). isFree (r .state)) (t .rows) ≡ true
-    some-free = true-of-not-false _ (λ e. nf (full-iff t .0 (rw e)))
-
     slot : freeSlot t < length (t .rows)
-    slot = first-found (λ (r : Row). isFree (r .state)) (t .rows) pastEnd some-free .0
+    slot = begin-slot t nf .0
 
     unused : ¬ IsCommitted (rowAt t (freeSlot t))
-    unused c = let f = free-iff (rowAt t (freeSlot t) .state) .0 (first-found (λ (r : Row). isFree (r .state)) (t .rows) pastEnd some-free .1) in never (cc)
+    unused c = let f = begin-slot t nf .1 in never (cc)
 
     own : (s : ℕ) → s ∈ sitesOf sites → Dec (s < t .sites) → s < t .sites
     own s m (yes l) = l

@@ -75,7 +75,7 @@ module _ (t : Table) (es : List Rows.Row) (v : Invariant t es) (n s : ℕ) (p : 
   abbrev at : ℕ
   at = slotOf t n
 
-  has : Has q s
+  pub has : Has q s
   has = go (member-or-not s (sitesOf (q .sites)))
     where
       go : (s ∈ sitesOf (q .sites)) ⊎ (¬ (s ∈ sitesOf (q .sites))) → s ∈ sitesOf (q .sites)
@@ -85,7 +85,7 @@ module _ (t : Table) (es : List Rows.Row) (v : Invariant t es) (n s : ℕ) (p : 
   slot : at < length (t .rows)
   slot = found t n nu .slot
 
-  inside : s < length (q .parts)
+  pub inside : s < length (q .parts)
   inside = omega (arith, lt-of-member (q .sites) has, v .shape .parts at (omega (arith, slot, v .shape .slots)))
 
   -- a committed one has all its sites prepared, and is done
@@ -106,6 +106,13 @@ module _ (t : Table) (es : List Rows.Row) (v : Invariant t es) (n s : ℕ) (p : 
     shut = λ c. absurd (nc c);
   }
 
+pub above-base : (q : Row) (s k : ℕ) → ¬ NotAbove q s k → base q s < k
+above-base q s k n = go (decLe k (base q s))
+  where
+    go : Dec (k ≤ base q s) → base q s < k
+    go (yes l) = absurd (n l)
+    go (no l) = omega arith
+
 pub invariant-ticket : (t : Table) (es : List Rows.Row) (n s k : ℕ) → Invariant t es → ¬ Closed t → ¬ Unknown t n → ¬ NotListed (rowOfNumber t n) s
     → ¬ NoStep (rowOfNumber t n) s Report.Ticket → ¬ NotAbove (rowOfNumber t n) s k → ¬ Taken t n s k → Invariant (effect t (reportTicket n s k) .table) es
 unfolding effect
@@ -116,11 +123,7 @@ invariant-ticket t es n s k v nc nu nl ns na nt =
     q = rowOfNumber t n
 
     high : base q s < k
-    high = go (decLe k (base q s))
-      where
-        go : Dec (k ≤ base q s) → base q s < k
-        go (yes l) = absurd (na l)
-        go (no l) = omega arith
+    high = above-base q s k na
 
     other : (j : ℕ) → j ≢ slotOf t n → k ≢ tick (rowAt t j) s
     other j d e = go (rowAt t j .state) refl

@@ -66,7 +66,7 @@ module _ (t : Table) where
       go (inl e) = absurd (n (committed-iff (rowAt t j .state) .0 e))
       go (inr e) = rw e
 
-  slot-cases : (j : ℕ) → (row′ j ≡ rowAt t j) ⊎ (row′ j ≡ freeRow)
+  pub slot-cases : (j : ℕ) → (row′ j ≡ rowAt t j) ⊎ (row′ j ≡ freeRow)
   unfolding sweptRow
   slot-cases j = go (committed (rowAt t j) && not (stays t (rowAt t j))) (swept-slot j)
     where

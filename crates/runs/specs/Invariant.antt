@@ -5,7 +5,7 @@ use Prim.Native.Nat.{ℕ, _≤_, _<_}
 use lib.ListN.{length}
 use Rattle.rows.specs.Rows
 use Rattle.table.specs.declared.Table.{Table}
-use Rattle.table.specs.Records.{freeRow, rowAt, highAt}
+use Rattle.table.specs.Records.{freeRow, closed, rowAt, highAt}
 use Rattle.table.specs.Conditions.{Closed}
 use Rattle.runs.specs.Sound.{IsFree, Has, Sound}
 
@@ -23,5 +23,5 @@ pub record Shape (t : Table) : Type 0 where
 pub record Invariant (t : Table) (es : List Rows.Row) : Type 0 where
   pub shape : Shape t
   pub sound : Sound (rowAt t) (highAt t) (t .last .0) es
-  -- before the opening nothing was committed
-  pub shut : Closed t → es ≡ []
+  -- before the opening nothing was committed, and the table is all zeros
+  pub shut : Closed t → (es ≡ []) × (t ≡ closed)

@@ -2,3 +2,4 @@ pub mod Run
 pub mod History
 pub mod Sound
 pub mod Invariant
+pub mod Follows

@@ -30,18 +30,15 @@ unfoldable pub Happened : (Table → Call → Answer → Type 0) → Run → Typ
 Happened P start = ⊥
 Happened P (call r c) = P (after r) c (answerTo r c) ⊎ Happened P r
 
--- the table holds the number, as active or as committed
-abbrev pub Holds : State → Table → ℕ → Type 0
-Holds st t n = (i : ℕ) × (rowAt t i .state ≡ st) × (rowAt t i .number .0 ≡ n)
+-- the number stands in a slot; as that of an active transaction, or of a committed one
+abbrev pub Known : Table → ℕ → Type 0
+Known t n = (i : ℕ) × (rowAt t i .state ≢ State.Free) × (rowAt t i .number .0 ≡ n)
 
 abbrev pub Active : Table → ℕ → Type 0
-Active = Holds State.Active
+Active t n = (i : ℕ) × (rowAt t i .state ≡ State.Active) × (rowAt t i .number .0 ≡ n)
 
 abbrev pub Kept : Table → ℕ → Type 0
-Kept = Holds State.Committed
-
-abbrev pub Known : Table → ℕ → Type 0
-Known t n = Active t n ⊎ Kept t n
+Kept t n = (i : ℕ) × (rowAt t i .state ≡ State.Committed) × (rowAt t i .number .0 ≡ n)
 
 -- what a step is, told by its call and its answer
 abbrev pub Opens : ℕ → List ℕ → Table → Call → Answer → Type 0
@@ -57,11 +54,11 @@ abbrev pub Prepares : ℕ → ℕ → Table → Call → Answer → Type 0
 Prepares n s t c a = (c ≡ reportPrepared n s) × (a ≡ Answer.Done)
 
 abbrev pub Commits : ℕ → Table → Call → Answer → Type 0
-Commits n t c a = a ≡ Answer.Commit (number n)
+Commits n t c a = (c ≡ decide n) × (a ≡ Answer.Commit (number n))
 
 -- aborted, also as one that made a cycle
 abbrev pub Aborts : ℕ → Table → Call → Answer → Type 0
-Aborts n t c a = ((c ≡ abort n) × (a ≡ Answer.Done)) ⊎ (a ≡ Answer.Cycle (number n))
+Aborts n t c a = ((c ≡ abort n) × (a ≡ Answer.Done)) ⊎ ((c ≡ decide n) × (a ≡ Answer.Cycle (number n)))
 
 -- forgotten, by its number or by a sweep, which had it in the table and left it out
 abbrev pub Forgets : ℕ → Table → Call → Answer → Type 0
@@ -74,15 +71,19 @@ Over r n = Happened (Aborts n) r ⊎ Happened (Forgets n) r
 abbrev pub BegunIn : Run → ℕ → Type 0
 BegunIn r n = (sites : ℕ) × Happened (Begins n sites) r
 
+-- a transaction that was active when this one committed
+abbrev pub CommitsBeside : ℕ → ℕ → Table → Call → Answer → Type 0
+CommitsBeside n m t c a = Commits n t c a × Active t m
+
 -- how many begins were answered with a number
+abbrev pub isBegun : Answer → ℕ
+isBegun Answer.Done = 0
+isBegun (Answer.Begun n) = 1
+isBegun (Answer.Commit n) = 0
+isBegun (Answer.Cycle n) = 0
+isBegun (Answer.Swept k) = 0
+isBegun (Answer.Refused k) = 0
+
 unfoldable pub begins : Run → ℕ
 begins start = 0
 begins (call r c) = begins r + isBegun (answerTo r c)
-  where
-    isBegun : Answer → ℕ
-    isBegun Answer.Done = 0
-    isBegun (Answer.Begun n) = 1
-    isBegun (Answer.Commit n) = 0
-    isBegun (Answer.Cycle n) = 0
-    isBegun (Answer.Swept k) = 0
-    isBegun (Answer.Refused k) = 0
