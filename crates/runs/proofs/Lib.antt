@@ -22,3 +22,6 @@ pub mod RowsFollowLaws
 pub mod CountLaws
 pub mod BesideLaws
 pub mod FollowLaws
+pub mod ExactlyLaws
+pub mod ForgetAllLaws
+pub mod NoneToForgetLaws

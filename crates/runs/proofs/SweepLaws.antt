@@ -15,10 +15,10 @@ use Rattle.graph.proofs.ReachedLaws.{reached-of-next}
 use Rattle.rows.specs.Rows
 use Rattle.table.specs.declared.Row.{Row}
 use Rattle.table.specs.declared.Table.{Table}
-use Rattle.table.specs.Records.{freeRow, pastEnd, rowAt, highAt, committed, withRows, Goes}
+use Rattle.table.specs.Records.{freeRow, pastEnd, rowAt, highAt, committed, Goes}
 use Rattle.table.specs.Slots.{kept, entryOf}
 use Rattle.table.specs.Conditions.{Closed, HeldBack}
-use Rattle.table.specs.Effects.{stays, sweptRow}
+use Rattle.table.specs.Effects.{stays, sweptRow, sweptTable}
 use Rattle.table.proofs.RecordLaws.{never, committed-iff}
 use Rattle.table.proofs.SlotLaws.{kept-of-place}
 use Rattle.table.proofs.GraphLaws.{stays-iff}
@@ -30,11 +30,8 @@ use Rattle.runs.proofs.KnownLaws.{blank-free, no-site-free, later-of-fr
 use Rattle.runs.proofs.DropLaws.{past-of-loose}
 
 module _ (t : Table) where
-  abbrev swept : Table
-  swept = withRows t (map (sweptRow t) (t .rows))
-
   abbrev row′ : ℕ → Row
-  row′ = rowAt swept
+  row′ = rowAt (sweptTable t)
 
   pub kept-of-slot : (j : ℕ) → IsCommitted (rowAt t j) → rowAt t j ∈ kept t
   unfolding kept
@@ -76,16 +73,16 @@ module _ (t : Table) where
 
   -- one that does not stay is not held back, and nothing that stays has an arrow to it
   module _ (i : ℕ) (c : IsCommitted (rowAt t i)) (s : stays t (rowAt t i) ≡ false) where
-    free-of-hold : ¬ HeldBack t (rowAt t i)
+    pub free-of-hold : ¬ HeldBack t (rowAt t i)
     free-of-hold h = true-not-false (stays-iff t (rowAt t i) (kept-of-slot i c) .1 (rowAt t i, kept-of-slot i c, h, inl refl)) s
 
-    no-arrow-in : (j : ℕ) → IsCommitted (rowAt t j) → stays t (rowAt t j) ≡ true → ¬ Goes (rowAt t j) (rowAt t i)
+    pub no-arrow-in : (j : ℕ) → IsCommitted (rowAt t j) → stays t (rowAt t j) ≡ true → ¬ Goes (rowAt t j) (rowAt t i)
     no-arrow-in j d k a = true-not-false
         (stays-iff t (rowAt t i) (kept-of-slot i c) .1 (reached-of-next (kept-of-slot i c) (stays-iff t (rowAt t j) (kept-of-slot j d) .0 k) (kept-of-slot j d) a)) s
 
-  pub invariant-sweep : (es : List Rows.Row) → Invariant t es → ¬ Closed t → Invariant swept es
+  pub invariant-sweep : (es : List Rows.Row) → Invariant t es → ¬ Closed t → Invariant (sweptTable t) es
   invariant-sweep es v nc = record {
-    shape = shape-freed t swept (v .shape) (length-map (t .rows) (sweptRow t) ∙ v .shape .slots) refl refl slot-cases no-site-free;
+    shape = shape-freed t (sweptTable t) (v .shape) (length-map (t .rows) (sweptRow t) ∙ v .shape .slots) refl refl slot-cases no-site-free;
     sound = sound-freed (rowAt t) row′ free lost (highAt t) (t .last .0) es (v .sound);
     shut = λ k. absurd (nc k);
   }

@@ -3,3 +3,4 @@ pub mod History
 pub mod Sound
 pub mod Invariant
 pub mod Follows
+pub mod Sweeps

@@ -74,6 +74,9 @@ stays t = reachedb goesb (heldBack t) (kept t)
 unfoldable pub sweptRow : Table → Row → Row
 sweptRow t r = cond (committed r && not (stays t r)) freeRow r
 
+abbrev pub sweptTable : Table → Table
+sweptTable t = withRows t (map (sweptRow t) (t .rows))
+
 unfoldable pub sweptCount : Table → ℕ
 sweptCount t = length (keep (λ r. not (stays t r)) (kept t))
 
@@ -87,7 +90,7 @@ effect t (reportPrepared n s) =
 effect t (abort n) = answered (freed t n) Answer.Done
 effect t (decide n) = decided t n (acyclic arrowb (ticketsOf (rowOfNumber t n) ∷ map ticketsOf (kept t)))
 effect t (forget n) = answered (freed t n) Answer.Done
-effect t sweep = answered (withRows t (map (sweptRow t) (t .rows))) (Answer.Swept (sweptCount t))
+effect t sweep = answered (sweptTable t) (Answer.Swept (sweptCount t))
 
 -- a refused call changes nothing
 unfoldable pub act : Table → Call → Option ℕ → Answered
