@@ -27,6 +27,7 @@ use Rattle.table.specs.Conditions.{Closed, Unknown, NotListed, NoStep, NotAbove
 use Rattle.table.specs.Effects.{reported, effect}
 use Rattle.table.specs.Calls.Call.{reportTicket, reportPrepared}
 use Rattle.table.proofs.RecordLaws.{never}
+use Rattle.table.proofs.StageLaws.{begun-of-step, ticketed-of-step}
 use Rattle.table.proofs.RowLaws.{ticket-part, reported-same, reported-other, length-reported}
 use Rattle.runs.specs.Sound.{IsFree, IsActive, IsCommitted, num, Has, base, tick, Sound}
 use Rattle.runs.specs.Invariant.{Invariant}
@@ -62,10 +63,8 @@ module _ (row : ℕ → Row) (i s : ℕ) (p : Report) (k : Ticket) (l : s < leng
 
 -- a step that the stage table has leads from a site that is not prepared
 not-prepared : (g : Stage) (p : Report) → ¬ (stepOf g p ≡ Step.Refused) → g ≢ Stage.Prepared
-not-prepared Stage.Begun p h e = never (cc)
-not-prepared Stage.Ticketed p h e = never (cc)
-not-prepared Stage.Prepared Report.Ticket h e = h refl
-not-prepared Stage.Prepared Report.Prepared h e = h refl
+not-prepared g Report.Ticket h e = let z = begun-of-step g h in never (cc)
+not-prepared g Report.Prepared h e = let z = ticketed-of-step g h in never (cc)
 
 module _ (t : Table) (es : List Rows.Row) (v : Invariant t es) (n s : ℕ) (p : Report)
     (nc : ¬ Closed t) (nu : ¬ Unknown t n) (nl : ¬ NotListed (rowOfNumber t n) s) (ns : ¬ NoStep (rowOfNumber t n) s p) where

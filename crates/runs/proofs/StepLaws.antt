@@ -15,18 +15,17 @@ use Rattle.sites.specs.Sites.{sitesOf}
 use Rattle.table.specs.declared.Ticket.{Ticket}
 use Rattle.table.specs.declared.Stage.{Stage}
 use Rattle.table.specs.declared.Report.{Report}
-use Rattle.table.specs.declared.Step.{Step}
 use Rattle.table.specs.declared.Row.{Row}
 use Rattle.table.specs.declared.Table.{Table}
 use Rattle.table.specs.declared.Answer.{Answer}
 use Rattle.table.specs.declared.Answered.{Answered}
 use Rattle.table.specs.Records.{number, ticket, freeRow, rowAt, partAt, highAt, ticketsOf}
-use Rattle.table.specs.Stages.{stepOf}
 use Rattle.table.specs.Slots.{slotOf, rowOfNumber, freeSlot, kept, entryOf}
 use Rattle.table.specs.Conditions.{Closed, BadOpening}
 use Rattle.table.specs.Calls.{Call, rules, NoneHolds}
 use Rattle.table.specs.Calls.Call.{openWith, begin, reportTicket, reportPrepared, abort, decide, forget, sweep}
 use Rattle.table.specs.Effects.{opened, newRow, reported, committedRow, decided, effect, step}
+use Rattle.table.proofs.StageLaws.{begun-of-step, ticketed-of-step}
 use Rattle.table.proofs.CallLaws.{Steps, Steps.stopped, Steps.passed, step-goes}
 use Rattle.runs.specs.Run.{Aborts}
 use Rattle.runs.specs.Sound.{IsFree, IsActive, IsCommitted, num, Has, tick}
@@ -62,17 +61,6 @@ module _ (t : Table) (c : Call) (a : Answer) (u : Table) where
     frees : (n i : ℕ) → ¬ Closed t → Aborts n t c a ⊎ ((c ≡ forget n) × (a ≡ Answer.Done)) → ¬ IsFree (rowAt t i) → num (rowAt t i) ≡ n
         → Changed (rowAt t) i freeRow (rowAt u) → Same → Change
     sweeps : (k : ℕ) → ¬ Closed t → c ≡ sweep → a ≡ Answer.Swept k → ((i : ℕ) → (rowAt u i ≡ rowAt t i) ⊎ (rowAt u i ≡ freeRow)) → Same → Change
-
--- a report is taken at one stage only
-begun-of-step : (g : Stage) → ¬ (stepOf g Report.Ticket ≡ Step.Refused) → g ≡ Stage.Begun
-begun-of-step Stage.Begun n = refl
-begun-of-step Stage.Ticketed n = absurd (n refl)
-begun-of-step Stage.Prepared n = absurd (n refl)
-
-ticketed-of-step : (g : Stage) → ¬ (stepOf g Report.Prepared ≡ Step.Refused) → g ≡ Stage.Ticketed
-ticketed-of-step Stage.Begun n = absurd (n refl)
-ticketed-of-step Stage.Ticketed n = refl
-ticketed-of-step Stage.Prepared n = absurd (n refl)
 
 -- every step is one of these
 module _ (t : Table) (es : List Rows.Row) (v : Invariant t es) where

@@ -2,19 +2,16 @@
 -- check of that call caught it, and a call that nothing refuses does what is written for it. Assumes nothing.
 use mathlib.Core.Path.{_≡_, refl, sym, ap, _∙_}
 use mathlib.Core.Bool.{Bool, true, false, not, false≢true, true≢false}
-use mathlib.Core.List.{List, [], _∷_, map}
+use mathlib.Core.List.{List, [], _∷_}
 use mathlib.Core.Logic.{_↔_, _⊎_, inl, inr}
 use mathlib.Core.Option.{Option, none, some}
 use Prim.Native.Nat.{ℕ}
-use Rattle.graph.specs.Acyclic.{acyclic}
 use Rattle.graph.proofs.TestLaws.{iff-not}
-use Rattle.rows.specs.Arrow.{arrowb}
 use Rattle.table.specs.declared.Report.{Report}
 use Rattle.table.specs.declared.Table.{Table}
 use Rattle.table.specs.declared.Answer.{Answer}
 use Rattle.table.specs.declared.Answered.{Answered}
-use Rattle.table.specs.Records.{ticketsOf}
-use Rattle.table.specs.Slots.{rowOfNumber, kept}
+use Rattle.table.specs.Slots.{rowOfNumber}
 use Rattle.table.specs.Conditions.{isClosed}
 use Rattle.table.specs.Calls.{Call, rules, checks, FirstHolds, NoneHolds, firstTrue}
 use Rattle.table.specs.Calls.Call.{openWith, begin, reportTicket, reportPrepared, abort, decide, forget, sweep}
@@ -80,18 +77,19 @@ none-or-first (r ∷ rs) k (n, m) (inl p) = n (p .0)
 none-or-first (r ∷ rs) k (n, m) (inr p) = none-or-first rs k m (p .1)
 
 -- what is done is never a refusal
+decided-not-refused : (t : Table) (n : ℕ) (b : Bool) (k : ℕ) → ¬ (decided t n b .answer ≡ Answer.Refused k)
+unfolding decided
+decided-not-refused t n true k e = never (cc)
+decided-not-refused t n false k e = never (cc)
+
 effect-not-refused : (t : Table) (c : Call) (k : ℕ) → ¬ (effect t c .answer ≡ Answer.Refused k)
-unfolding effect decided
+unfolding effect
 effect-not-refused t (openWith first floors) k e = never (cc)
 effect-not-refused t (begin sites) k e = never (cc)
 effect-not-refused t (reportTicket n s j) k e = never (cc)
 effect-not-refused t (reportPrepared n s) k e = never (cc)
 effect-not-refused t (abort n) k e = never (cc)
-effect-not-refused t (decide n) k e = go (acyclic arrowb (ticketsOf (rowOfNumber t n) ∷ map ticketsOf (kept t))) e
-  where
-    go : (b : Bool) → ¬ (decided t n b .answer ≡ Answer.Refused k)
-    go true e = never (cc)
-    go false e = never (cc)
+effect-not-refused t (decide n) k e = decided-not-refused t n _ k e
 effect-not-refused t (forget n) k e = never (cc)
 effect-not-refused t sweep k e = never (cc)
 

@@ -5,3 +5,4 @@ pub mod CallLaws
 pub mod SlotLaws
 pub mod RowLaws
 pub mod GraphLaws
+pub mod StageLaws
