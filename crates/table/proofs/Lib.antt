@@ -6,3 +6,4 @@ pub mod SlotLaws
 pub mod RowLaws
 pub mod GraphLaws
 pub mod StageLaws
+pub mod SearchLaws

@@ -1,4 +1,7 @@
-// The table of transactions: its records. What each call does with it is in specs/. RULES, The table.
+// The table of transactions: its records, and a module for each group of calls. What a call does is defined in specs/.
+// RULES, The table.
+mod slots;
+
 
 // A number is counted by the table, a ticket by its site: the two are never mixed up.
 pub struct Number(pub u32);

@@ -1,0 +1,100 @@
+// What a row is, and where a number and a free slot are. 32 stands for no slot.
+ghost use mathlib.Core.Path.{_≡_};
+ghost use Rattle.table.specs.Records.{isFree, isActive, isCommitted, freeRow};
+ghost use Rattle.table.specs.Slots.{hasNumber, slotOf, freeSlot};
+use crate::Number;
+use crate::Part;
+use crate::Row;
+use crate::Stage;
+use crate::State;
+use crate::Table;
+use crate::Ticket;
+
+pub fn is_free(s: State) -> bool
+    ensures answer { λ r. ⌜ r ≡ isFree s ⌝ }
+{
+    match s {
+        State::Free => true,
+        State::Active => false,
+        State::Committed => false,
+    }
+}
+
+pub fn is_active(s: State) -> bool
+    ensures answer { λ r. ⌜ r ≡ isActive s ⌝ }
+{
+    match s {
+        State::Free => false,
+        State::Active => true,
+        State::Committed => false,
+    }
+}
+
+pub fn is_committed(s: State) -> bool
+    ensures answer { λ r. ⌜ r ≡ isCommitted s ⌝ }
+{
+    match s {
+        State::Free => false,
+        State::Active => false,
+        State::Committed => true,
+    }
+}
+
+// What a slot holds while no transaction has it.
+pub fn free_row() -> Row
+    ensures answer { λ r. ⌜ r ≡ freeRow ⌝ }
+{
+    let p = Part {
+        stage: Stage::Begun,
+        base: Ticket(0),
+        ticket: Ticket(0),
+    };
+    let parts = [p; 8];
+    Row {
+        state: State::Free,
+        number: Number(0),
+        sites: 0,
+        last: Number(0),
+        parts: parts,
+    }
+}
+
+pub fn has_number(r: Row, n: Number) -> bool
+    ensures answer { λ b. ⌜ b ≡ hasNumber (n .0) r ⌝ }
+{
+    let state = r.state;
+    if is_free(state) {
+        return false;
+    }
+    let number = r.number;
+    number.0 == n.0
+}
+
+pub fn find(t: Table, n: Number) -> usize
+    ensures answer { λ r. ⌜ r ≡ slotOf t (n .0) ⌝ }
+{
+    let mut i: usize = 0;
+    while i < 32 {
+        let row = t.rows[i];
+        if has_number(row, n) {
+            return i;
+        }
+        i += 1;
+    }
+    32
+}
+
+pub fn lowest_free(t: Table) -> usize
+    ensures answer { λ r. ⌜ r ≡ freeSlot t ⌝ }
+{
+    let mut i: usize = 0;
+    while i < 32 {
+        let row = t.rows[i];
+        let state = row.state;
+        if is_free(state) {
+            return i;
+        }
+        i += 1;
+    }
+    32
+}
