@@ -7,3 +7,4 @@ pub mod RowLaws
 pub mod GraphLaws
 pub mod StageLaws
 pub mod SearchLaws
+pub mod GateLaws

@@ -6,3 +6,4 @@ pub mod Calls
 pub mod Effects
 pub mod Runs
 pub mod Trials
+pub mod Gate

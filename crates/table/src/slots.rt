@@ -2,6 +2,7 @@
 ghost use mathlib.Core.Path.{_≡_};
 ghost use Rattle.table.specs.Records.{isFree, isActive, isCommitted, freeRow};
 ghost use Rattle.table.specs.Slots.{hasNumber, slotOf, freeSlot};
+ghost use Rattle.table.specs.Gate.{gateOf};
 use crate::Number;
 use crate::Part;
 use crate::Row;
@@ -82,6 +83,25 @@ pub fn find(t: Table, n: Number) -> usize
         i += 1;
     }
     32
+}
+
+// The slot of a number, or the refusal of every call that names a number which the table does not know.
+pub enum Gate {
+    At(usize),
+    Refused(u8),
+}
+
+pub fn enter(t: Table, n: Number) -> Gate
+    ensures answer { λ r. ⌜ r ≡ gateOf t (n .0) ⌝ }
+{
+    if t.sites == 0 {
+        return Gate::Refused(1);
+    }
+    let slot = find(t, n);
+    if slot == 32 {
+        return Gate::Refused(2);
+    }
+    Gate::At(slot)
 }
 
 pub fn lowest_free(t: Table) -> usize
