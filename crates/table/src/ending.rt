@@ -1,6 +1,6 @@
 // The calls that free a slot at the caller's word: abort and forget. RULES, Calls.
 ghost use mathlib.Core.Path.{_≡_};
-ghost use Rattle.table.specs.Calls.Call.{abort as abortCall};
+ghost use Rattle.table.specs.Calls.Call.{abort as abortCall, forget as forgetCall};
 ghost use Rattle.table.specs.Effects.{step, answered};
 ghost use Rattle.table.specs.Records.{withRow, freeRow};
 ghost use Prim.Native.Nat.{_<_};
@@ -9,6 +9,7 @@ use crate::Answer;
 use crate::Answered;
 use crate::Number;
 use crate::Table;
+use crate::rivals;
 use crate::slots;
 use crate::slots::Gate;
 
@@ -46,6 +47,28 @@ pub fn abort(t: Table, n: Number) -> Answered
             let state = row.state;
             if !slots::is_active(state) {
                 return refuse(t, 4);
+            }
+            without(t, slot)
+        }
+    }
+}
+
+pub fn forget(t: Table, n: Number) -> Answered
+    ensures answer { λ r. ⌜ r ≡ step t (forgetCall (n .0)) ⌝ }
+{
+    match slots::enter(t, n) {
+        Gate::Refused(k) => refuse(t, k),
+        Gate::At(slot) => {
+            let row = t.rows[slot];
+            let state = row.state;
+            if !slots::is_committed(state) {
+                return refuse(t, 4);
+            }
+            if rivals::has_pred(t, row) {
+                return refuse(t, 9);
+            }
+            if rivals::is_held_back(t, row) {
+                return refuse(t, 9);
             }
             without(t, slot)
         }

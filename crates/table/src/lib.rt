@@ -1,9 +1,11 @@
 // The table of transactions: its records, and a module for each group of calls. What a call does is defined in specs/.
 // RULES, The table.
 mod slots;
+mod rivals;
 mod ending;
 
 pub use ending::abort;
+pub use ending::forget;
 
 
 // A number is counted by the table, a ticket by its site: the two are never mixed up.
