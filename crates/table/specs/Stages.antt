@@ -1,5 +1,6 @@
 -- The stage table: from which stage which report leads to which. RULES, The table.
 use mathlib.Core.Bool.{Bool, true, false}
+use Prim.Native.Nat.{ℕ}
 use Rattle.table.specs.declared.Stage.{Stage}
 use Rattle.table.specs.declared.Report.{Report}
 use Rattle.table.specs.declared.Step.{Step}
@@ -24,3 +25,13 @@ isRefused Step.Refused = true
 abbrev pub stageTo : Stage → Step → Stage
 stageTo g (Step.To h) = h
 stageTo g Step.Refused = g
+
+-- the places of a stage and of a report in the code's table
+abbrev pub stageNo : Stage → ℕ
+stageNo Stage.Begun = 0
+stageNo Stage.Ticketed = 1
+stageNo Stage.Prepared = 2
+
+abbrev pub reportNo : Report → ℕ
+reportNo Report.Ticket = 0
+reportNo Report.Prepared = 1

@@ -1,12 +1,14 @@
 // The table of transactions: its records, and a module for each group of calls. What a call does is defined in specs/.
 // RULES, The table.
-mod slots;
-mod rivals;
 mod ending;
+mod reports;
+mod rivals;
+mod slots;
 
 pub use ending::abort;
 pub use ending::forget;
-
+pub use reports::report_prepared;
+pub use reports::report_ticket;
 
 // A number is counted by the table, a ticket by its site: the two are never mixed up.
 pub struct Number(pub u32);
