@@ -1,0 +1,4 @@
+mod RisingLaws
+mod EveryLaws
+pub mod SitesLaws
+pub mod ByteLaws
