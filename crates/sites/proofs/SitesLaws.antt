@@ -1,6 +1,6 @@
 -- Which sites a set has, for any number x: `listed`, `sitesOf` and `Outside` say the same of it. Assumes nothing.
 use mathlib.Core.Path.{_≡_, refl}
-use mathlib.Core.Bool.{Bool, true, false}
+use mathlib.Core.Bool.{true, false}
 use mathlib.Core.List.{[], _∷_}
 use Prim.Native.Nat.{ℕ, _/_, _%_, _^_, _<_, _≤_}
 use native.Mathlib.Omega.{arith}
