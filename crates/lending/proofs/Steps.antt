@@ -29,7 +29,8 @@ use Rattle.lending.proofs.Locals.{ptr-ty, again-ty, locals, temps, opds
 abbrev Way : {M : Type 1} (𝓤 : URA M) (H : Heap 𝓤) (A : Atoms 𝓤) → Share → Ty → ℕ → ℕ → (Val → Item 𝓤) → Val → SProp 𝓤
 Way 𝓤 H A q τ b o back u = wand 𝓤 (H .at q τ b o u) (mean 𝓤 H A (back u))
 
-module _ {M : Type 1} {𝓤 : URA M} {H : Heap 𝓤} {A : Atoms 𝓤} {K : Type 0} {W : Given 𝓤 H A} {i j : Item 𝓤} {q : Share} {τ : Ty} {b o : ℕ} {v : Val} {back : Val → Item 𝓤} where
+module _ {M : Type 1} {𝓤 : URA M} {H : Heap 𝓤} {A : Atoms 𝓤} {K : Type 0} {W : Given 𝓤 H A}
+    {i j : Item 𝓤} {q : Share} {τ : Ty} {b o : ℕ} {v : Val} {back : Val → Item 𝓤} where
   pub in-left : Part K W i q τ b o v back → Part K W (i ⊛ j) q τ b o v (λ u. back u ⊛ j)
   in-left p = record {
     out = qed W ((i ⊛ j) ∷ []) ∵ split ! $ use1 W (‵ (fat q τ b o v) ⊛ raw (each-of 𝓤 (Way 𝓤 H A q τ b o back))) (p .out) $ split ! $ frame ! $
