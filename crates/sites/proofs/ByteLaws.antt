@@ -11,11 +11,14 @@ use lib.ListN.{getD, drop}
 use lib.Count.{ones, onesIn, trailingZeros}
 use lib.Bits.{bitAnd, and-le-r}
 use lib.Pow.{pow-mono}
-use borrow.Author.Tests.{ltb-true, ltb-false, lt-leb}
-use Rattle.sites.specs.Sites.{sitesOf, sitesUsed, setOf, outsideb, Turn}
+use borrow.Author.Tests.{ltb-true, ltb-false, leb-false, lt-leb}
+use Rattle.graph.specs.Lists.{_∈_}
+use Rattle.graph.proofs.TestLaws.{true-not-false, false-of-not-true}
+use Rattle.graph.proofs.MemberLaws.{any-of-member}
+use Rattle.sites.specs.Sites.{sitesOf, sitesUsed, setOf, Outside, outsideb, Turn}
 use Rattle.sites.specs.Every.{everyBelow, sameList}
 use Rattle.sites.proofs.EveryLaws.{true-below, numbers-below, lists-below, tests-below}
-use Rattle.sites.proofs.SitesLaws.{lt-of-member, not-outside-past}
+use Rattle.sites.proofs.SitesLaws.{lt-of-member, outsideb→outside, not-outside-past}
 
 module _ (x : ℕ) (h : x < 256) where
   -- `count_ones` is how many sites the set has
@@ -60,6 +63,16 @@ module _ (x : ℕ) (h : x < 256) where
           let k : 8 ≤ n = ltb-false n 8 e in
           not-outside-past x n k ∙ sym (lt-leb (2 ^ n) x (lt-of-lt-of-le h (pow-mono k)))
 
+  pub below-of-lt-pow : (n : ℕ) → x < 2 ^ n → {s : ℕ} → s ∈ sitesOf x → s < n
+  below-of-lt-pow n k {s} m =
+      leb-false n s (false-of-not-true (leb n s) (λ e. true-not-false (any-of-member (leb n) m e) (outside-pow n ∙ lt-leb (2 ^ n) x k)))
+
+  pub lt-pow-of-below : (n : ℕ) → ((s : ℕ) → s ∈ sitesOf x → s < n) → x < 2 ^ n
+  lt-pow-of-below n k = leb-false (2 ^ n) x (sym (outside-pow n) ∙ false-of-not-true (outsideb x n) (λ e. refuted (outsideb→outside x n e)))
+    where
+      refuted : Outside x n → ⊥
+      refuted (s, m, j) = let i = k s m in omega arith
+
 pub sites-zero : sitesOf 0 ≡ []
 unfolding sitesOf
 sites-zero = refl
@@ -80,7 +93,7 @@ sites-first x n h = go (sitesOf x) (λ e. n (zero-of-no-sites x h e))
     go (s ∷ ss) e = refl
 
 -- a turn of `while left != 0 { let s = u8::trailing_zeros(left) as usize; ..; left = left & (left - 1); }`
-pub turn : (x : ℕ) → (x ≡ 0 → ⊥) → x < 256 → Turn x (trailingZeros 8 x) (bitAnd x (x - 1))
+pub turn : (x : ℕ) → (x ≡ 0 → ⊥) → x < 256 → Turn x
 turn x n h = record { site = lt-of-member x (rw walk (here refl)); falls = omega (arith, and-le-r x (x - 1)); step = walk }
   where
     walk : sitesOf x ≡ trailingZeros 8 x ∷ sitesOf (bitAnd x (x - 1))

@@ -6,7 +6,7 @@ use Prim.Native.Nat.{ℕ, zero, suc, _<_}
 use native.Mathlib.Omega.{arith}
 use lib.Dec.{leb}
 use borrow.Author.Tests.{leb-false}
-use Rattle.graph.specs.Lists.{_∈_, At, Once, anyOf, keep}
+use Rattle.graph.specs.Lists.{_∈_, Once, anyOf, keep}
 use Rattle.graph.proofs.TestLaws.{both-of-and, false-of-not, false-of-not-true, true-not-false}
 use Rattle.graph.proofs.MemberLaws.{kept-subset, any-of-member}
 use Rattle.graph.proofs.PlaceLaws.{member-of-at}

@@ -1,12 +1,12 @@
 -- Which sites a set has, for any number x: `listed`, `sitesOf` and `Outside` say the same of it. Assumes nothing.
 use mathlib.Core.Path.{_≡_, refl}
-use mathlib.Core.Bool.{Bool, true, false}
+use mathlib.Core.Bool.{true, false}
 use mathlib.Core.List.{[], _∷_}
 use Prim.Native.Nat.{ℕ, _/_, _%_, _^_, _<_, _≤_}
 use native.Mathlib.Omega.{arith}
 use lib.Dec.{eqb, ltb, leb}
 use lib.ListN.{getD}
-use borrow.Author.Tests.{ltb-true, le-ltb, leb-true, le-leb}
+use borrow.Author.Tests.{ltb-true, lt-ltb, le-ltb, leb-true, le-leb}
 use Rattle.graph.specs.Lists.{_∈_, Once}
 use Rattle.graph.proofs.TestLaws.{both-of-and, false-of-not-true}
 use Rattle.graph.proofs.PlaceLaws.{member-of-place}
@@ -23,6 +23,9 @@ sites-of-11 = (refl, refl, refl, refl, refl)
 
 pub lt-of-listed : (x s : ℕ) → listed x s ≡ true → s < 8
 lt-of-listed x s e = ltb-true s 8 (both-of-and (ltb s 8) (eqb (x / 2 ^ s % 2) 1) e .0)
+
+pub listed-bit : (x s : ℕ) → s < 8 → listed x s ≡ eqb (x / 2 ^ s % 2) 1
+listed-bit x s h = rw (lt-ltb s 8)
 
 pub not-listed-past : (x s : ℕ) → 8 ≤ s → listed x s ≡ false
 not-listed-past x s h = rw (le-ltb s 8)

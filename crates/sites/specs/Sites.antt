@@ -2,9 +2,11 @@
 use mathlib.Core.Path.{_≡_}
 use mathlib.Core.Bool.{Bool, true, not, _&&_}
 use mathlib.Core.List.{List, [], _∷_}
-use Prim.Native.Nat.{ℕ, _+_, _/_, _%_, _^_, _<_, _≤_}
+use Prim.Native.Nat.{ℕ, _+_, _-_, _/_, _%_, _^_, _<_, _≤_}
 use lib.Dec.{eqb, ltb, leb}
 use lib.ListN.{length}
+use lib.Bits.{bitAnd}
+use lib.Count.{trailingZeros}
 use Rattle.graph.specs.Lists.{_∈_, keep, anyOf}
 
 -- Site i is in the set x. There is no site from 8 on, so no set has one, whatever number is asked about.
@@ -46,8 +48,8 @@ abbrev pub risingb : List ℕ → Bool
 risingb [] = true
 risingb (a ∷ l) = not (anyOf (λ b. leb b a) l) && risingb l
 
--- One turn of a walk over a set, lowest site first: x is left to visit, s is the site of this turn, and y is left after it.
-pub record Turn (x s y : ℕ) : Type 0 where
-  pub site : s < 8
-  pub falls : y < x
-  pub step : sitesOf x ≡ s ∷ sitesOf y
+-- One turn of a walk over a set that is not empty, lowest site first: the site is `trailing_zeros(x)`, and `x & (x - 1)` is left to visit.
+pub record Turn (x : ℕ) : Type 0 where
+  pub site : trailingZeros 8 x < 8
+  pub falls : bitAnd x (x - 1) < x
+  pub step : sitesOf x ≡ trailingZeros 8 x ∷ sitesOf (bitAnd x (x - 1))
