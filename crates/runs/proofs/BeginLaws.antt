@@ -8,9 +8,9 @@ use native.Mathlib.Omega.{arith}
 use Rattle.graph.specs.Lists.{_∈_}
 use Rattle.rows.specs.Arrow.{Tickets, ticketAt}
 use Rattle.rows.specs.Rows
-use Rattle.table.specs.declared.Row.{Row}
-use Rattle.table.specs.Records.{ticketsOf}
-use Rattle.table.specs.Slots.{entryOf}
+use Rattle.method.specs.declared.Row.{Row}
+use Rattle.method.specs.Records.{ticketsOf}
+use Rattle.method.specs.Slots.{entryOf}
 use Rattle.runs.specs.Sound.{IsActive, IsCommitted, num, Has, base, tick, Above, RowSound, PairSound, Past, Still, Gone, EntrySound, Sound}
 use Rattle.runs.proofs.ChangeLaws.{Changed, not-committed, not-free, every, both, keeps}
 

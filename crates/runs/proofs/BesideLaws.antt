@@ -5,16 +5,16 @@ use mathlib.Core.Logic.{_↔_, _≢_, _⊎_, inl, inr}
 use Prim.Native.Nat.{ℕ, _+_, _≤_}
 use native.Mathlib.Omega.{arith}
 use native.Mathlib.Decide.{ℕ-discrete}
-use Rattle.table.specs.declared.State.{State}
-use Rattle.table.specs.declared.Row.{Row}
-use Rattle.table.specs.declared.Table.{Table}
-use Rattle.table.specs.declared.Answer.{Answer}
-use Rattle.table.specs.Records.{number, freeRow, rowAt, closed}
-use Rattle.table.specs.Slots.{slotOf, rowOfNumber}
-use Rattle.table.specs.Calls.{Call}
-use Rattle.table.specs.Calls.Call.{begin, decide, sweep}
-use Rattle.table.specs.Effects.{newRow, reported, committedRow, step}
-use Rattle.table.proofs.RecordLaws.{never}
+use Rattle.method.specs.declared.State.{State}
+use Rattle.method.specs.declared.Row.{Row}
+use Rattle.method.specs.declared.Table.{Table}
+use Rattle.method.specs.declared.Answer.{Answer}
+use Rattle.method.specs.Records.{number, freeRow, rowAt, closed}
+use Rattle.method.specs.Slots.{slotOf, rowOfNumber}
+use Rattle.method.specs.Calls.{Call}
+use Rattle.method.specs.Calls.Call.{begin, decide, sweep}
+use Rattle.method.specs.Effects.{newRow, reported, committedRow, step}
+use Rattle.method.proofs.RecordLaws.{never}
 use Rattle.runs.specs.Run.{Run, Run.start, Run.call, after, answerTo, Happened, Active, Commits, CommitsBeside}
 use Rattle.runs.specs.History.{history}
 use Rattle.runs.specs.Sound.{IsFree, IsActive, IsCommitted, num}

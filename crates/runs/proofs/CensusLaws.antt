@@ -7,17 +7,17 @@ use native.Mathlib.Omega.{arith}
 use native.Mathlib.Decide.{ℕ-discrete, decLt}
 use lib.ListN.{length, getD-replicate, List·getD-eq-default}
 use Rattle.rows.specs.Rows
-use Rattle.table.specs.declared.Number.{Number}
-use Rattle.table.specs.declared.State.{State}
-use Rattle.table.specs.declared.Row.{Row}
-use Rattle.table.specs.declared.Table.{Table}
-use Rattle.table.specs.declared.Answer.{Answer}
-use Rattle.table.specs.Records.{number, freeRow, pastEnd, closed, rowAt}
-use Rattle.table.specs.Conditions.{Closed, Unknown, unknown}
-use Rattle.table.specs.Calls.{Call}
-use Rattle.table.specs.Calls.Call.{abort, forget, sweep}
-use Rattle.table.specs.Effects.{opened, newRow, reported, committedRow, step}
-use Rattle.table.proofs.RecordLaws.{never}
+use Rattle.method.specs.declared.Number.{Number}
+use Rattle.method.specs.declared.State.{State}
+use Rattle.method.specs.declared.Row.{Row}
+use Rattle.method.specs.declared.Table.{Table}
+use Rattle.method.specs.declared.Answer.{Answer}
+use Rattle.method.specs.Records.{number, freeRow, pastEnd, closed, rowAt}
+use Rattle.method.specs.Conditions.{Closed, Unknown, unknown}
+use Rattle.method.specs.Calls.{Call}
+use Rattle.method.specs.Calls.Call.{abort, forget, sweep}
+use Rattle.method.specs.Effects.{opened, newRow, reported, committedRow, step}
+use Rattle.method.proofs.RecordLaws.{never}
 use Rattle.runs.specs.Run.{Run, Run.start, Run.call, after, Happened, Known, Begins, Aborts, Forgets, Over, BegunIn}
 use Rattle.runs.specs.History.{history}
 use Rattle.runs.specs.Sound.{IsFree, num}

@@ -3,10 +3,10 @@ use mathlib.Core.Path.{_≡_, refl, sym, ap, subst, _∙_}
 use mathlib.Core.Logic.{_≢_, _⊎_, inl, inr}
 use Prim.Native.Nat.{ℕ}
 use Rattle.rows.specs.Rows
-use Rattle.table.specs.declared.State.{State}
-use Rattle.table.specs.declared.Row.{Row}
-use Rattle.table.specs.Slots.{entryOf}
-use Rattle.table.proofs.RecordLaws.{never}
+use Rattle.method.specs.declared.State.{State}
+use Rattle.method.specs.declared.Row.{Row}
+use Rattle.method.specs.Slots.{entryOf}
+use Rattle.method.proofs.RecordLaws.{never}
 use Rattle.runs.specs.Sound.{IsCommitted, Still}
 
 -- slot i became r, the others stayed

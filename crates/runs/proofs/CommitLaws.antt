@@ -11,11 +11,11 @@ use Rattle.rows.specs.Arrow.{Tickets, ticketAt, Arrow}
 use Rattle.rows.specs.Rows
 use Rattle.rows.specs.Rows.{RowArrow}
 use Rattle.rows.proofs.GoodLaws.{apart-of-cons}
-use Rattle.table.specs.declared.Stage.{Stage}
-use Rattle.table.specs.declared.Row.{Row}
-use Rattle.table.specs.Slots.{entryOf}
-use Rattle.table.specs.Records.{partAt, ticketsOf}
-use Rattle.table.proofs.RecordLaws.{never}
+use Rattle.method.specs.declared.Stage.{Stage}
+use Rattle.method.specs.declared.Row.{Row}
+use Rattle.method.specs.Slots.{entryOf}
+use Rattle.method.specs.Records.{partAt, ticketsOf}
+use Rattle.method.proofs.RecordLaws.{never}
 use Rattle.runs.specs.Sound.{IsActive, IsCommitted, num, Has, base, tick, RowSound, PairSound, Past, Still, Gone, EntrySound, Sound}
 use Rattle.runs.proofs.ChangeLaws.{Changed, not-committed, not-free, every, both, there, keeps}
 use Rattle.runs.proofs.NewestLaws.{Keeps, unpointed, no-clash, no-new-cycle}

@@ -10,17 +10,17 @@ use lib.ListN.{length, getD}
 use Rattle.graph.specs.Lists.{_∈_}
 use Rattle.rows.specs.Arrow.{ticketAt}
 use Rattle.rows.specs.Rows
-use Rattle.table.specs.declared.Ticket.{Ticket}
-use Rattle.table.specs.declared.Row.{Row}
-use Rattle.table.specs.declared.Table.{Table}
-use Rattle.table.specs.declared.Answer.{Answer}
-use Rattle.table.specs.Records.{number, ticket, rowAt, highAt, closed}
-use Rattle.table.specs.Slots.{slotOf, rowOfNumber, entryOf}
-use Rattle.table.specs.Conditions.{Closed, BadOpening}
-use Rattle.table.specs.Calls.{Call}
-use Rattle.table.specs.Calls.Call.{openWith, decide}
-use Rattle.table.specs.Effects.{padded, opened, step}
-use Rattle.table.proofs.RecordLaws.{never}
+use Rattle.method.specs.declared.Ticket.{Ticket}
+use Rattle.method.specs.declared.Row.{Row}
+use Rattle.method.specs.declared.Table.{Table}
+use Rattle.method.specs.declared.Answer.{Answer}
+use Rattle.method.specs.Records.{number, ticket, rowAt, highAt, closed}
+use Rattle.method.specs.Slots.{slotOf, rowOfNumber, entryOf}
+use Rattle.method.specs.Conditions.{Closed, BadOpening}
+use Rattle.method.specs.Calls.{Call}
+use Rattle.method.specs.Calls.Call.{openWith, decide}
+use Rattle.method.specs.Effects.{padded, opened, step}
+use Rattle.method.proofs.RecordLaws.{never}
 use Rattle.runs.specs.Run.{Run, Run.start, Run.call, after, answerTo, Happened, Opens, isBegun, begins as begunSoFar}
 use Rattle.runs.specs.History.{history, noted}
 use Rattle.runs.specs.Sound.{Has, tick}

@@ -17,17 +17,17 @@ use Rattle.rows.specs.Rows
 use Rattle.rows.specs.Rows.{RowArrow}
 use Rattle.sites.specs.Sites.{sitesOf}
 use Rattle.sites.proofs.SitesLaws.{rising-sites, lt-of-member}
-use Rattle.table.specs.declared.Ticket.{Ticket}
-use Rattle.table.specs.declared.Stage.{Stage}
-use Rattle.table.specs.declared.State.{State}
-use Rattle.table.specs.declared.Row.{Row}
-use Rattle.table.specs.declared.Table.{Table}
-use Rattle.table.specs.Records.{ticket, rowAt, partAt, highAt, isPrepared, ticketsOf, Goes}
-use Rattle.table.specs.Slots.{slotOf, rowOfNumber, kept, entryOf}
-use Rattle.table.specs.Conditions.{Closed, Unknown, NotReady}
-use Rattle.table.specs.Effects.{committedRow, raised, decided}
-use Rattle.table.proofs.RecordLaws.{never, prepared-iff}
-use Rattle.table.proofs.RowLaws.{ticket-part, length-raised, raised-other, raised-listed}
+use Rattle.method.specs.declared.Ticket.{Ticket}
+use Rattle.method.specs.declared.Stage.{Stage}
+use Rattle.method.specs.declared.State.{State}
+use Rattle.method.specs.declared.Row.{Row}
+use Rattle.method.specs.declared.Table.{Table}
+use Rattle.method.specs.Records.{ticket, rowAt, partAt, highAt, isPrepared, ticketsOf, Goes}
+use Rattle.method.specs.Slots.{slotOf, rowOfNumber, kept, entryOf}
+use Rattle.method.specs.Conditions.{Closed, Unknown, NotReady}
+use Rattle.method.specs.Effects.{committedRow, raised, decided}
+use Rattle.method.proofs.RecordLaws.{never, prepared-iff}
+use Rattle.method.proofs.RowLaws.{ticket-part, length-raised, raised-other, raised-listed}
 use Rattle.runs.specs.Sound.{IsActive, Has, tick, Sound}
 use Rattle.runs.specs.Invariant.{Invariant}
 use Rattle.runs.proofs.ChangeLaws.{not-committed}

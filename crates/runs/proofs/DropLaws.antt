@@ -5,14 +5,14 @@ use mathlib.Core.Logic.{_≢_, _⊎_, inl, inr}
 use Prim.Native.Nat.{ℕ, _<_}
 use lib.ListN.{length}
 use Rattle.rows.specs.Rows
-use Rattle.table.specs.declared.State.{State}
-use Rattle.table.specs.declared.Row.{Row}
-use Rattle.table.specs.declared.Table.{Table}
-use Rattle.table.specs.Records.{freeRow, rowAt, highAt, withRow, Goes}
-use Rattle.table.specs.Slots.{slotOf, rowOfNumber, entryOf}
-use Rattle.table.specs.Conditions.{Closed, Unknown, MayNotForget}
-use Rattle.table.specs.Effects.{freed}
-use Rattle.table.proofs.RecordLaws.{never}
+use Rattle.method.specs.declared.State.{State}
+use Rattle.method.specs.declared.Row.{Row}
+use Rattle.method.specs.declared.Table.{Table}
+use Rattle.method.specs.Records.{freeRow, rowAt, highAt, withRow, Goes}
+use Rattle.method.specs.Slots.{slotOf, rowOfNumber, entryOf}
+use Rattle.method.specs.Conditions.{Closed, Unknown, MayNotForget}
+use Rattle.method.specs.Effects.{freed}
+use Rattle.method.proofs.RecordLaws.{never}
 use Rattle.runs.specs.Sound.{IsFree, IsActive, IsCommitted, num, Past, Gone, Sound}
 use Rattle.runs.specs.Invariant.{Invariant}
 use Rattle.runs.proofs.ChangeLaws.{Changed, not-committed, not-free, every}

@@ -17,20 +17,20 @@ use Rattle.graph.proofs.PathLaws.{cycle-of-weaker}
 use Rattle.graph.proofs.MapLaws.{mapped-cycle-iff}
 use Rattle.rows.specs.Arrow.{Arrow, arrowb}
 use Rattle.rows.proofs.ArrowLaws.{arrowb→arrow}
-use Rattle.table.specs.declared.State.{State}
-use Rattle.table.specs.declared.Row.{Row}
-use Rattle.table.specs.declared.Table.{Table}
-use Rattle.table.specs.declared.Answer.{Answer}
-use Rattle.table.specs.declared.Answered.{Answered}
-use Rattle.table.specs.Records.{number, freeRow, rowAt, isFree, committed, ticketsOf, Goes}
-use Rattle.table.specs.Slots.{slotOf, rowOfNumber, kept}
-use Rattle.table.specs.Conditions.{Closed, Unknown, HasPred, HeldBack}
-use Rattle.table.specs.Calls.{rules, NoneHolds}
-use Rattle.table.specs.Calls.Call.{decide, forget, sweep}
-use Rattle.table.specs.Effects.{answered, decided, freed, stays, sweptRow, sweptTable, sweptCount, effect, step}
-use Rattle.table.proofs.RecordLaws.{never, free-iff, committed-iff}
-use Rattle.table.proofs.CallLaws.{done-exactly, refused-exactly}
-use Rattle.table.proofs.GraphLaws.{no-cycle-iff, stays-iff}
+use Rattle.method.specs.declared.State.{State}
+use Rattle.method.specs.declared.Row.{Row}
+use Rattle.method.specs.declared.Table.{Table}
+use Rattle.method.specs.declared.Answer.{Answer}
+use Rattle.method.specs.declared.Answered.{Answered}
+use Rattle.method.specs.Records.{number, freeRow, rowAt, isFree, committed, ticketsOf, Goes}
+use Rattle.method.specs.Slots.{slotOf, rowOfNumber, kept}
+use Rattle.method.specs.Conditions.{Closed, Unknown, HasPred, HeldBack}
+use Rattle.method.specs.Calls.{rules, NoneHolds}
+use Rattle.method.specs.Calls.Call.{decide, forget, sweep}
+use Rattle.method.specs.Effects.{answered, decided, freed, stays, sweptRow, sweptTable, sweptCount, effect, step}
+use Rattle.method.proofs.RecordLaws.{never, free-iff, committed-iff}
+use Rattle.method.proofs.CallLaws.{done-exactly, refused-exactly}
+use Rattle.method.proofs.GraphLaws.{no-cycle-iff, stays-iff}
 use Rattle.runs.specs.Sweeps.{freeSlots}
 use Rattle.runs.specs.Sound.{IsFree, IsCommitted}
 use Rattle.runs.proofs.SweepLaws.{kept-of-slot, slot-goes, slot-stays, slot-other}

@@ -4,14 +4,14 @@ use mathlib.Core.Bool.{true}
 use mathlib.Core.Logic.{_↔_, _≢_, _⊎_, inl, inr}
 use Prim.Native.Nat.{ℕ}
 use native.Mathlib.Decide.{ℕ-discrete}
-use Rattle.table.specs.declared.State.{State}
-use Rattle.table.specs.declared.Row.{Row}
-use Rattle.table.specs.declared.Table.{Table}
-use Rattle.table.specs.Records.{pastEnd, rowAt, active}
-use Rattle.table.specs.Slots.{activeRows}
-use Rattle.table.specs.Conditions.{HeldBack, Unknown}
-use Rattle.table.proofs.RecordLaws.{never, active-iff}
-use Rattle.table.proofs.SlotLaws.{kept-of-place, place-of-kept}
+use Rattle.method.specs.declared.State.{State}
+use Rattle.method.specs.declared.Row.{Row}
+use Rattle.method.specs.declared.Table.{Table}
+use Rattle.method.specs.Records.{pastEnd, rowAt, active}
+use Rattle.method.specs.Slots.{activeRows}
+use Rattle.method.specs.Conditions.{HeldBack, Unknown}
+use Rattle.method.proofs.RecordLaws.{never, active-iff}
+use Rattle.method.proofs.SlotLaws.{kept-of-place, place-of-kept}
 use Rattle.runs.specs.Run.{Run, after, Happened, Known, Active, Kept, Commits, CommitsBeside, Over, BegunIn}
 use Rattle.runs.specs.Sound.{IsFree, IsActive, IsCommitted, num}
 use Rattle.runs.specs.Follows.{Follows}

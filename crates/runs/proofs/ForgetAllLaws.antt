@@ -23,20 +23,20 @@ use Rattle.graph.proofs.ReachedLaws.{reached-of-next}
 use Rattle.rows.specs.Rows
 use Rattle.rows.specs.Rows.{RowArrow}
 use Rattle.rows.proofs.OrderLaws.{order-exists-iff-no-cycle}
-use Rattle.table.specs.declared.State.{State}
-use Rattle.table.specs.declared.Row.{Row}
-use Rattle.table.specs.declared.Table.{Table}
-use Rattle.table.specs.declared.Answer.{Answer}
-use Rattle.table.specs.declared.Answered.{Answered}
-use Rattle.table.specs.Records.{freeRow, pastEnd, rowAt, isFree, active, committed, withRows, withRow, Goes, goesb}
-use Rattle.table.specs.Slots.{slotOf, rowOfNumber, kept, activeRows, entryOf}
-use Rattle.table.specs.Conditions.{Closed, Unknown, HasPred, HeldBack}
-use Rattle.table.specs.Calls.Call.{forget, sweep}
-use Rattle.table.specs.Effects.{answered, freed, stays, sweptRow, sweptTable, sweptCount, step}
-use Rattle.table.proofs.RecordLaws.{never, free-iff, active-iff, committed-iff}
-use Rattle.table.proofs.ConditionLaws.{goes-iff}
-use Rattle.table.proofs.SlotLaws.{place-of-kept, kept-of-place}
-use Rattle.table.proofs.GraphLaws.{stays-iff}
+use Rattle.method.specs.declared.State.{State}
+use Rattle.method.specs.declared.Row.{Row}
+use Rattle.method.specs.declared.Table.{Table}
+use Rattle.method.specs.declared.Answer.{Answer}
+use Rattle.method.specs.declared.Answered.{Answered}
+use Rattle.method.specs.Records.{freeRow, pastEnd, rowAt, isFree, active, committed, withRows, withRow, Goes, goesb}
+use Rattle.method.specs.Slots.{slotOf, rowOfNumber, kept, activeRows, entryOf}
+use Rattle.method.specs.Conditions.{Closed, Unknown, HasPred, HeldBack}
+use Rattle.method.specs.Calls.Call.{forget, sweep}
+use Rattle.method.specs.Effects.{answered, freed, stays, sweptRow, sweptTable, sweptCount, step}
+use Rattle.method.proofs.RecordLaws.{never, free-iff, active-iff, committed-iff}
+use Rattle.method.proofs.ConditionLaws.{goes-iff}
+use Rattle.method.proofs.SlotLaws.{place-of-kept, kept-of-place}
+use Rattle.method.proofs.GraphLaws.{stays-iff}
 use Rattle.runs.specs.Sound.{IsFree, IsActive, IsCommitted, num}
 use Rattle.runs.specs.Invariant.{Invariant}
 use Rattle.runs.specs.Sweeps.{freeSlots, ForgetAll, NoneToForget}

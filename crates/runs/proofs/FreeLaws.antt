@@ -6,9 +6,9 @@ use mathlib.Core.List.{List}
 use Prim.Native.Nat.{ℕ}
 use native.Mathlib.Omega.{arith}
 use Rattle.rows.specs.Rows
-use Rattle.table.specs.declared.Row.{Row}
-use Rattle.table.specs.Slots.{entryOf}
-use Rattle.table.proofs.RecordLaws.{never}
+use Rattle.method.specs.declared.Row.{Row}
+use Rattle.method.specs.Slots.{entryOf}
+use Rattle.method.proofs.RecordLaws.{never}
 use Rattle.runs.specs.Sound.{IsFree, IsCommitted, num, tick, RowSound, PairSound, Past, Still, Gone, Sound}
 
 -- a free row: no number, no tickets

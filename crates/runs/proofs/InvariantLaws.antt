@@ -12,17 +12,17 @@ use Rattle.rows.specs.Rows
 use Rattle.rows.specs.Good.{Apart}
 use Rattle.rows.specs.Order.{InOrder}
 use Rattle.rows.proofs.OrderLaws.{order-exists-iff-no-cycle}
-use Rattle.table.specs.declared.Table.{Table}
-use Rattle.table.specs.declared.Answer.{Answer}
-use Rattle.table.specs.declared.Answered.{Answered}
-use Rattle.table.specs.Records.{ticketsOf, Goes}
-use Rattle.table.specs.Slots.{rowOfNumber, kept, entryOf}
-use Rattle.table.specs.Conditions.{Closed}
-use Rattle.table.specs.Calls.{Call, rules, NoneHolds}
-use Rattle.table.specs.Calls.Call.{openWith, begin, reportTicket, reportPrepared, abort, decide, forget, sweep}
-use Rattle.table.specs.Effects.{decided, effect, step}
-use Rattle.table.proofs.CallLaws.{Steps, Steps.stopped, Steps.passed, step-goes}
-use Rattle.table.proofs.GraphLaws.{no-cycle-iff}
+use Rattle.method.specs.declared.Table.{Table}
+use Rattle.method.specs.declared.Answer.{Answer}
+use Rattle.method.specs.declared.Answered.{Answered}
+use Rattle.method.specs.Records.{ticketsOf, Goes}
+use Rattle.method.specs.Slots.{rowOfNumber, kept, entryOf}
+use Rattle.method.specs.Conditions.{Closed}
+use Rattle.method.specs.Calls.{Call, rules, NoneHolds}
+use Rattle.method.specs.Calls.Call.{openWith, begin, reportTicket, reportPrepared, abort, decide, forget, sweep}
+use Rattle.method.specs.Effects.{decided, effect, step}
+use Rattle.method.proofs.CallLaws.{Steps, Steps.stopped, Steps.passed, step-goes}
+use Rattle.method.proofs.GraphLaws.{no-cycle-iff}
 use Rattle.runs.specs.Run.{Run, Run.start, Run.call, after}
 use Rattle.runs.specs.History.{noted, history}
 use Rattle.runs.specs.Invariant.{Invariant}

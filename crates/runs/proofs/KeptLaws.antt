@@ -19,13 +19,13 @@ use Rattle.rows.specs.Order.{InOrder}
 use Rattle.rows.proofs.RowsLaws.{length-flatOf, rows-of-flat}
 use Rattle.rows.proofs.GoodLaws.{apart-of-cons, apart-of-nil}
 use Rattle.rows.proofs.OrderLaws.{order-exists-iff-no-cycle}
-use Rattle.table.specs.declared.Row.{Row}
-use Rattle.table.specs.declared.Table.{Table}
-use Rattle.table.specs.Records.{pastEnd, rowAt, committed}
-use Rattle.table.specs.Slots.{kept, entryOf, keptRows, keptFlat}
-use Rattle.table.proofs.RecordLaws.{never, committed-iff}
-use Rattle.table.proofs.SlotLaws.{place-of-kept}
-use Rattle.table.proofs.RowLaws.{length-tickets}
+use Rattle.method.specs.declared.Row.{Row}
+use Rattle.method.specs.declared.Table.{Table}
+use Rattle.method.specs.Records.{pastEnd, rowAt, committed}
+use Rattle.method.specs.Slots.{kept, entryOf, keptRows, keptFlat}
+use Rattle.method.proofs.RecordLaws.{never, committed-iff}
+use Rattle.method.proofs.SlotLaws.{place-of-kept}
+use Rattle.method.proofs.RowLaws.{length-tickets}
 use Rattle.runs.specs.Sound.{IsFree, IsCommitted, num, PairSound}
 use Rattle.runs.specs.Invariant.{Invariant}
 

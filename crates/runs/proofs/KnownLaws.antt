@@ -11,15 +11,15 @@ use Rattle.graph.specs.Lists.{anyOf}
 use Rattle.graph.proofs.TestLaws.{true-or-false, true-not-false}
 use Rattle.graph.proofs.PlaceLaws.{member-of-place, place-of-member}
 use Rattle.sites.proofs.ByteLaws.{sites-zero}
-use Rattle.table.specs.declared.Row.{Row}
-use Rattle.table.specs.declared.Table.{Table}
-use Rattle.table.specs.Records.{noPart, freeRow, pastEnd, rowAt, active, committed, withRow, Goes}
-use Rattle.table.specs.Slots.{hasNumber, slotOf, rowOfNumber, kept, activeRows, entryOf}
-use Rattle.table.specs.Conditions.{Unknown, unknown, HasPred, HeldBack}
-use Rattle.table.proofs.RecordLaws.{active-iff, committed-iff}
-use Rattle.table.proofs.ConditionLaws.{has-number-iff, unknown-iff}
-use Rattle.table.proofs.SlotLaws.{first-found, kept-of-place, place-of-kept, set-cases}
-use Rattle.table.proofs.RowLaws.{ticket-part, getD-replicate-same}
+use Rattle.method.specs.declared.Row.{Row}
+use Rattle.method.specs.declared.Table.{Table}
+use Rattle.method.specs.Records.{noPart, freeRow, pastEnd, rowAt, active, committed, withRow, Goes}
+use Rattle.method.specs.Slots.{hasNumber, slotOf, rowOfNumber, kept, activeRows, entryOf}
+use Rattle.method.specs.Conditions.{Unknown, unknown, HasPred, HeldBack}
+use Rattle.method.proofs.RecordLaws.{active-iff, committed-iff}
+use Rattle.method.proofs.ConditionLaws.{has-number-iff, unknown-iff}
+use Rattle.method.proofs.SlotLaws.{first-found, kept-of-place, place-of-kept, set-cases}
+use Rattle.method.proofs.RowLaws.{ticket-part, getD-replicate-same}
 use Rattle.runs.specs.Run.{Known}
 use Rattle.runs.specs.Sound.{IsFree, IsActive, IsCommitted, num, tick, Has}
 use Rattle.runs.proofs.ChangeLaws.{Changed}

@@ -12,9 +12,9 @@ use Rattle.rows.specs.Arrow.{ticketAt, Arrow}
 use Rattle.rows.specs.Rows
 use Rattle.rows.specs.Rows.{RowArrow}
 use Rattle.rows.specs.Good.{Clash}
-use Rattle.table.specs.declared.Row.{Row}
-use Rattle.table.specs.Records.{ticketsOf}
-use Rattle.table.specs.Slots.{entryOf}
+use Rattle.method.specs.declared.Row.{Row}
+use Rattle.method.specs.Records.{ticketsOf}
+use Rattle.method.specs.Slots.{entryOf}
 use Rattle.runs.specs.Sound.{IsActive, IsCommitted, num, tick, Above, Past, Still, Gone, Sound}
 use Rattle.runs.proofs.ChangeLaws.{not-committed, not-free}
 

@@ -8,21 +8,21 @@ use Rattle.graph.specs.Path.{ArrowPath}
 use Rattle.graph.specs.Reached.{Reached}
 use Rattle.graph.proofs.TestLaws.{true-or-false}
 use Rattle.graph.proofs.PathLaws.{last-of-path}
-use Rattle.table.specs.declared.State.{State}
-use Rattle.table.specs.declared.Row.{Row}
-use Rattle.table.specs.declared.Table.{Table}
-use Rattle.table.specs.declared.Answer.{Answer}
-use Rattle.table.specs.declared.Answered.{Answered}
-use Rattle.table.specs.Records.{freeRow, pastEnd, rowAt, active, committed, Goes}
-use Rattle.table.specs.Slots.{slotOf, rowOfNumber, kept, activeRows}
-use Rattle.table.specs.Conditions.{HasPred, HeldBack, MayNotForget}
-use Rattle.table.specs.Calls.{rules, NoneHolds}
-use Rattle.table.specs.Calls.Call.{forget}
-use Rattle.table.specs.Effects.{stays, sweptTable, effect, step}
-use Rattle.table.proofs.RecordLaws.{never, active-iff, committed-iff}
-use Rattle.table.proofs.CallLaws.{Steps, Steps.stopped, Steps.passed, step-goes}
-use Rattle.table.proofs.SlotLaws.{place-of-kept, kept-of-place}
-use Rattle.table.proofs.GraphLaws.{stays-iff}
+use Rattle.method.specs.declared.State.{State}
+use Rattle.method.specs.declared.Row.{Row}
+use Rattle.method.specs.declared.Table.{Table}
+use Rattle.method.specs.declared.Answer.{Answer}
+use Rattle.method.specs.declared.Answered.{Answered}
+use Rattle.method.specs.Records.{freeRow, pastEnd, rowAt, active, committed, Goes}
+use Rattle.method.specs.Slots.{slotOf, rowOfNumber, kept, activeRows}
+use Rattle.method.specs.Conditions.{HasPred, HeldBack, MayNotForget}
+use Rattle.method.specs.Calls.{rules, NoneHolds}
+use Rattle.method.specs.Calls.Call.{forget}
+use Rattle.method.specs.Effects.{stays, sweptTable, effect, step}
+use Rattle.method.proofs.RecordLaws.{never, active-iff, committed-iff}
+use Rattle.method.proofs.CallLaws.{Steps, Steps.stopped, Steps.passed, step-goes}
+use Rattle.method.proofs.SlotLaws.{place-of-kept, kept-of-place}
+use Rattle.method.proofs.GraphLaws.{stays-iff}
 use Rattle.runs.specs.Sound.{IsActive, IsCommitted}
 use Rattle.runs.specs.Sweeps.{NoneToForget}
 use Rattle.runs.proofs.ChangeLaws.{not-committed}

@@ -14,18 +14,18 @@ use Rattle.rows.specs.Rows
 use Rattle.rows.proofs.GoodLaws.{apart-of-nil}
 use Rattle.sites.specs.Sites.{sitesOf, Outside}
 use Rattle.sites.proofs.SitesLaws.{rising-sites, lt-of-member}
-use Rattle.table.specs.declared.Part.{Part}
-use Rattle.table.specs.declared.Row.{Row}
-use Rattle.table.specs.declared.Table.{Table}
-use Rattle.table.specs.Records.{ticket, noPart, freeRow, pastEnd, closed, rowAt, partAt, highAt, isFree, number, withRow, withLast}
-use Rattle.table.specs.Slots.{freeSlot}
-use Rattle.table.specs.Conditions.{Closed, BadOpening, BadSites, Full, isFull}
-use Rattle.table.specs.Effects.{padded, opened, based, newRow, effect}
-use Rattle.table.specs.Calls.Call.{openWith, begin}
-use Rattle.table.proofs.RecordLaws.{never, free-iff}
-use Rattle.table.proofs.ConditionLaws.{full-iff}
-use Rattle.table.proofs.SlotLaws.{first-found}
-use Rattle.table.proofs.RowLaws.{ticket-part, getD-replicate-same, length-based, based-other, based-listed}
+use Rattle.method.specs.declared.Part.{Part}
+use Rattle.method.specs.declared.Row.{Row}
+use Rattle.method.specs.declared.Table.{Table}
+use Rattle.method.specs.Records.{ticket, noPart, freeRow, pastEnd, closed, rowAt, partAt, highAt, isFree, number, withRow, withLast}
+use Rattle.method.specs.Slots.{freeSlot}
+use Rattle.method.specs.Conditions.{Closed, BadOpening, BadSites, Full, isFull}
+use Rattle.method.specs.Effects.{padded, opened, based, newRow, effect}
+use Rattle.method.specs.Calls.Call.{openWith, begin}
+use Rattle.method.proofs.RecordLaws.{never, free-iff}
+use Rattle.method.proofs.ConditionLaws.{full-iff}
+use Rattle.method.proofs.SlotLaws.{first-found}
+use Rattle.method.proofs.RowLaws.{ticket-part, getD-replicate-same, length-based, based-other, based-listed}
 use Rattle.runs.specs.Sound.{IsFree, IsCommitted, num, tick, Has, base, Sound}
 use Rattle.runs.specs.Invariant.{Shape, Invariant}
 use Rattle.runs.proofs.ChangeLaws.{Changed}

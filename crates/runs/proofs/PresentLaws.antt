@@ -5,15 +5,15 @@ use mathlib.Core.Logic.{_⊎_, inl, inr}
 use Prim.Native.Nat.{ℕ, _<_, _≤_}
 use native.Mathlib.Omega.{arith}
 use native.Mathlib.Decide.{ℕ-discrete}
-use Rattle.table.specs.declared.Number.{Number}
-use Rattle.table.specs.declared.Table.{Table}
-use Rattle.table.specs.declared.Answer.{Answer}
-use Rattle.table.specs.Conditions.{Closed}
-use Rattle.table.specs.Records.{number, closed}
-use Rattle.table.specs.Calls.{Call}
-use Rattle.table.specs.Calls.Call.{openWith, begin, reportTicket, reportPrepared, abort, decide, forget, sweep}
-use Rattle.table.specs.Effects.{step}
-use Rattle.table.proofs.RecordLaws.{never}
+use Rattle.method.specs.declared.Number.{Number}
+use Rattle.method.specs.declared.Table.{Table}
+use Rattle.method.specs.declared.Answer.{Answer}
+use Rattle.method.specs.Conditions.{Closed}
+use Rattle.method.specs.Records.{number, closed}
+use Rattle.method.specs.Calls.{Call}
+use Rattle.method.specs.Calls.Call.{openWith, begin, reportTicket, reportPrepared, abort, decide, forget, sweep}
+use Rattle.method.specs.Effects.{step}
+use Rattle.method.proofs.RecordLaws.{never}
 use Rattle.runs.specs.Run.{Run, Run.start, Run.call, after, answerTo, Happened, Known, Begins, Aborts, Forgets, Over, BegunIn}
 use Rattle.runs.specs.History.{history}
 use Rattle.runs.specs.Invariant.{Invariant}

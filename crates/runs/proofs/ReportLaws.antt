@@ -12,23 +12,23 @@ use Rattle.graph.proofs.PlaceLaws.{member-of-place}
 use Rattle.rows.specs.Rows
 use Rattle.sites.specs.Sites.{sitesOf}
 use Rattle.sites.proofs.SitesLaws.{lt-of-member}
-use Rattle.table.specs.declared.Ticket.{Ticket}
-use Rattle.table.specs.declared.Stage.{Stage}
-use Rattle.table.specs.declared.State.{State}
-use Rattle.table.specs.declared.Report.{Report}
-use Rattle.table.specs.declared.Step.{Step}
-use Rattle.table.specs.declared.Part.{Part}
-use Rattle.table.specs.declared.Row.{Row}
-use Rattle.table.specs.declared.Table.{Table}
-use Rattle.table.specs.Records.{ticket, pastEnd, rowAt, partAt, highAt, withRow}
-use Rattle.table.specs.Stages.{stepOf}
-use Rattle.table.specs.Slots.{slotOf, rowOfNumber}
-use Rattle.table.specs.Conditions.{Closed, Unknown, NotListed, NoStep, NotAbove, Taken}
-use Rattle.table.specs.Effects.{reported, effect}
-use Rattle.table.specs.Calls.Call.{reportTicket, reportPrepared}
-use Rattle.table.proofs.RecordLaws.{never}
-use Rattle.table.proofs.StageLaws.{begun-of-step, ticketed-of-step}
-use Rattle.table.proofs.RowLaws.{ticket-part, reported-same, reported-other, length-reported}
+use Rattle.method.specs.declared.Ticket.{Ticket}
+use Rattle.method.specs.declared.Stage.{Stage}
+use Rattle.method.specs.declared.State.{State}
+use Rattle.method.specs.declared.Report.{Report}
+use Rattle.method.specs.declared.Step.{Step}
+use Rattle.method.specs.declared.Part.{Part}
+use Rattle.method.specs.declared.Row.{Row}
+use Rattle.method.specs.declared.Table.{Table}
+use Rattle.method.specs.Records.{ticket, pastEnd, rowAt, partAt, highAt, withRow}
+use Rattle.method.specs.Stages.{stepOf}
+use Rattle.method.specs.Slots.{slotOf, rowOfNumber}
+use Rattle.method.specs.Conditions.{Closed, Unknown, NotListed, NoStep, NotAbove, Taken}
+use Rattle.method.specs.Effects.{reported, effect}
+use Rattle.method.specs.Calls.Call.{reportTicket, reportPrepared}
+use Rattle.method.proofs.RecordLaws.{never}
+use Rattle.method.proofs.StageLaws.{begun-of-step, ticketed-of-step}
+use Rattle.method.proofs.RowLaws.{ticket-part, reported-same, reported-other, length-reported}
 use Rattle.runs.specs.Sound.{IsFree, IsActive, IsCommitted, num, Has, base, tick, Sound}
 use Rattle.runs.specs.Invariant.{Invariant}
 use Rattle.runs.proofs.MarkLaws.{Marked, sound-marked}

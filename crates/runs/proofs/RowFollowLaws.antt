@@ -8,20 +8,20 @@ use lib.ListN.{length, replicate}
 use Rattle.graph.proofs.MemberLaws.{member-or-not}
 use Rattle.sites.specs.Sites.{sitesOf}
 use Rattle.sites.proofs.SitesLaws.{rising-sites, lt-of-member}
-use Rattle.table.specs.declared.Ticket.{Ticket}
-use Rattle.table.specs.declared.Stage.{Stage}
-use Rattle.table.specs.declared.Report.{Report}
-use Rattle.table.specs.declared.Part.{Part}
-use Rattle.table.specs.declared.Row.{Row}
-use Rattle.table.specs.declared.Table.{Table}
-use Rattle.table.specs.declared.Answer.{Answer}
-use Rattle.table.specs.Records.{number, ticket, noPart, rowAt, partAt, highAt}
-use Rattle.table.specs.Stages.{stepOf, stageTo}
-use Rattle.table.specs.Calls.{Call}
-use Rattle.table.specs.Calls.Call.{begin, reportTicket, reportPrepared, decide}
-use Rattle.table.specs.Effects.{newRow, reported, committedRow, step}
-use Rattle.table.proofs.RecordLaws.{never}
-use Rattle.table.proofs.RowLaws.{ticket-part, getD-replicate-same, based-other, based-listed, reported-same, reported-other}
+use Rattle.method.specs.declared.Ticket.{Ticket}
+use Rattle.method.specs.declared.Stage.{Stage}
+use Rattle.method.specs.declared.Report.{Report}
+use Rattle.method.specs.declared.Part.{Part}
+use Rattle.method.specs.declared.Row.{Row}
+use Rattle.method.specs.declared.Table.{Table}
+use Rattle.method.specs.declared.Answer.{Answer}
+use Rattle.method.specs.Records.{number, ticket, noPart, rowAt, partAt, highAt}
+use Rattle.method.specs.Stages.{stepOf, stageTo}
+use Rattle.method.specs.Calls.{Call}
+use Rattle.method.specs.Calls.Call.{begin, reportTicket, reportPrepared, decide}
+use Rattle.method.specs.Effects.{newRow, reported, committedRow, step}
+use Rattle.method.proofs.RecordLaws.{never}
+use Rattle.method.proofs.RowLaws.{ticket-part, getD-replicate-same, based-other, based-listed, reported-same, reported-other}
 use Rattle.runs.specs.Run.{Run, Run.start, Run.call, after, answerTo, Happened, Known, Begins, TakesTicket, Prepares, Commits, BegunIn}
 use Rattle.runs.specs.Sound.{IsActive, IsCommitted, num, Has, base, tick}
 use Rattle.runs.specs.Follows.{BeginsAt, RowFollows}

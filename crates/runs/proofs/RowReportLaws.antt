@@ -5,20 +5,20 @@ use Prim.Native.Nat.{ℕ, _<_}
 use native.Mathlib.Omega.{arith}
 use native.Mathlib.Decide.{ℕ-discrete}
 use lib.ListN.{length}
-use Rattle.table.specs.declared.Ticket.{Ticket}
-use Rattle.table.specs.declared.Stage.{Stage}
-use Rattle.table.specs.declared.Report.{Report}
-use Rattle.table.specs.declared.Part.{Part}
-use Rattle.table.specs.declared.Row.{Row}
-use Rattle.table.specs.declared.Table.{Table}
-use Rattle.table.specs.declared.Answer.{Answer}
-use Rattle.table.specs.Records.{number, ticket, part, noPart, partAt, highAt, ticketsOf}
-use Rattle.table.specs.Stages.{stepOf, stageTo}
-use Rattle.table.specs.Calls.{Call}
-use Rattle.table.specs.Calls.Call.{reportTicket, reportPrepared, decide}
-use Rattle.table.specs.Effects.{reported, committedRow}
-use Rattle.table.proofs.RecordLaws.{never}
-use Rattle.table.proofs.RowLaws.{ticket-part, reported-same, reported-other}
+use Rattle.method.specs.declared.Ticket.{Ticket}
+use Rattle.method.specs.declared.Stage.{Stage}
+use Rattle.method.specs.declared.Report.{Report}
+use Rattle.method.specs.declared.Part.{Part}
+use Rattle.method.specs.declared.Row.{Row}
+use Rattle.method.specs.declared.Table.{Table}
+use Rattle.method.specs.declared.Answer.{Answer}
+use Rattle.method.specs.Records.{number, ticket, part, noPart, partAt, highAt, ticketsOf}
+use Rattle.method.specs.Stages.{stepOf, stageTo}
+use Rattle.method.specs.Calls.{Call}
+use Rattle.method.specs.Calls.Call.{reportTicket, reportPrepared, decide}
+use Rattle.method.specs.Effects.{reported, committedRow}
+use Rattle.method.proofs.RecordLaws.{never}
+use Rattle.method.proofs.RowLaws.{ticket-part, reported-same, reported-other}
 use Rattle.runs.specs.Run.{Run, Run.call, after, answerTo, Happened, TakesTicket, Prepares, Commits}
 use Rattle.runs.specs.Sound.{IsActive, IsCommitted, num, Has, base, tick}
 use Rattle.runs.specs.Follows.{BeginsAt, RowFollows}

@@ -2,17 +2,17 @@
 use mathlib.Core.Path.{_≡_, refl, sym, ap, subst, _∙_}
 use mathlib.Core.Logic.{_↔_, _≢_, _⊎_, inl, inr}
 use Prim.Native.Nat.{ℕ, _≤_}
-use Rattle.table.specs.declared.Number.{Number}
-use Rattle.table.specs.declared.Report.{Report}
-use Rattle.table.specs.declared.Row.{Row}
-use Rattle.table.specs.declared.Table.{Table}
-use Rattle.table.specs.declared.Answer.{Answer}
-use Rattle.table.specs.Records.{number, freeRow, closed, rowAt}
-use Rattle.table.specs.Slots.{slotOf, rowOfNumber}
-use Rattle.table.specs.Calls.{Call}
-use Rattle.table.specs.Calls.Call.{openWith, begin, reportTicket, reportPrepared, abort, decide, forget, sweep}
-use Rattle.table.specs.Effects.{committedRow, newRow, reported, step}
-use Rattle.table.proofs.RecordLaws.{never}
+use Rattle.method.specs.declared.Number.{Number}
+use Rattle.method.specs.declared.Report.{Report}
+use Rattle.method.specs.declared.Row.{Row}
+use Rattle.method.specs.declared.Table.{Table}
+use Rattle.method.specs.declared.Answer.{Answer}
+use Rattle.method.specs.Records.{number, freeRow, closed, rowAt}
+use Rattle.method.specs.Slots.{slotOf, rowOfNumber}
+use Rattle.method.specs.Calls.{Call}
+use Rattle.method.specs.Calls.Call.{openWith, begin, reportTicket, reportPrepared, abort, decide, forget, sweep}
+use Rattle.method.specs.Effects.{committedRow, newRow, reported, step}
+use Rattle.method.proofs.RecordLaws.{never}
 use Rattle.runs.specs.Run.{Run, Run.start, Run.call, after, answerTo, Happened, Known, TakesTicket, Prepares, Commits, Aborts, BegunIn}
 use Rattle.runs.specs.History.{history}
 use Rattle.runs.specs.Sound.{IsFree, num}

@@ -5,10 +5,10 @@ use mathlib.Core.Logic.{_≢_, _⊎_, inl, inr}
 use Prim.Native.Nat.{ℕ, _<_}
 use native.Mathlib.Omega.{arith}
 use lib.ListN.{length, set, length-set}
-use Rattle.table.specs.declared.Row.{Row}
-use Rattle.table.specs.declared.Table.{Table}
-use Rattle.table.specs.Records.{freeRow, pastEnd, rowAt}
-use Rattle.table.proofs.SlotLaws.{set-cases}
+use Rattle.method.specs.declared.Row.{Row}
+use Rattle.method.specs.declared.Table.{Table}
+use Rattle.method.specs.Records.{freeRow, pastEnd, rowAt}
+use Rattle.method.proofs.SlotLaws.{set-cases}
 use Rattle.runs.specs.Sound.{IsFree, Has}
 use Rattle.runs.specs.Invariant.{Shape}
 

@@ -12,21 +12,21 @@ use Rattle.graph.specs.Acyclic.{acyclic}
 use Rattle.rows.specs.Arrow.{arrowb}
 use Rattle.rows.specs.Rows
 use Rattle.sites.specs.Sites.{sitesOf}
-use Rattle.table.specs.declared.Ticket.{Ticket}
-use Rattle.table.specs.declared.Stage.{Stage}
-use Rattle.table.specs.declared.Report.{Report}
-use Rattle.table.specs.declared.Row.{Row}
-use Rattle.table.specs.declared.Table.{Table}
-use Rattle.table.specs.declared.Answer.{Answer}
-use Rattle.table.specs.declared.Answered.{Answered}
-use Rattle.table.specs.Records.{number, ticket, freeRow, rowAt, partAt, highAt, ticketsOf}
-use Rattle.table.specs.Slots.{slotOf, rowOfNumber, freeSlot, kept, entryOf}
-use Rattle.table.specs.Conditions.{Closed, BadOpening}
-use Rattle.table.specs.Calls.{Call, rules, NoneHolds}
-use Rattle.table.specs.Calls.Call.{openWith, begin, reportTicket, reportPrepared, abort, decide, forget, sweep}
-use Rattle.table.specs.Effects.{opened, newRow, reported, committedRow, decided, effect, step}
-use Rattle.table.proofs.StageLaws.{begun-of-step, ticketed-of-step}
-use Rattle.table.proofs.CallLaws.{Steps, Steps.stopped, Steps.passed, step-goes}
+use Rattle.method.specs.declared.Ticket.{Ticket}
+use Rattle.method.specs.declared.Stage.{Stage}
+use Rattle.method.specs.declared.Report.{Report}
+use Rattle.method.specs.declared.Row.{Row}
+use Rattle.method.specs.declared.Table.{Table}
+use Rattle.method.specs.declared.Answer.{Answer}
+use Rattle.method.specs.declared.Answered.{Answered}
+use Rattle.method.specs.Records.{number, ticket, freeRow, rowAt, partAt, highAt, ticketsOf}
+use Rattle.method.specs.Slots.{slotOf, rowOfNumber, freeSlot, kept, entryOf}
+use Rattle.method.specs.Conditions.{Closed, BadOpening}
+use Rattle.method.specs.Calls.{Call, rules, NoneHolds}
+use Rattle.method.specs.Calls.Call.{openWith, begin, reportTicket, reportPrepared, abort, decide, forget, sweep}
+use Rattle.method.specs.Effects.{opened, newRow, reported, committedRow, decided, effect, step}
+use Rattle.method.proofs.StageLaws.{begun-of-step, ticketed-of-step}
+use Rattle.method.proofs.CallLaws.{Steps, Steps.stopped, Steps.passed, step-goes}
 use Rattle.runs.specs.Run.{Aborts}
 use Rattle.runs.specs.Sound.{IsFree, IsActive, IsCommitted, num, Has, tick}
 use Rattle.runs.specs.Invariant.{Invariant}

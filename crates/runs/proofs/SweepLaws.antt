@@ -13,15 +13,15 @@ use Rattle.graph.specs.Reached.{Reached}
 use Rattle.graph.proofs.TestLaws.{true-or-false, true-not-false}
 use Rattle.graph.proofs.ReachedLaws.{reached-of-next}
 use Rattle.rows.specs.Rows
-use Rattle.table.specs.declared.Row.{Row}
-use Rattle.table.specs.declared.Table.{Table}
-use Rattle.table.specs.Records.{freeRow, pastEnd, rowAt, highAt, committed, Goes}
-use Rattle.table.specs.Slots.{kept, entryOf}
-use Rattle.table.specs.Conditions.{Closed, HeldBack}
-use Rattle.table.specs.Effects.{stays, sweptRow, sweptTable}
-use Rattle.table.proofs.RecordLaws.{never, committed-iff}
-use Rattle.table.proofs.SlotLaws.{kept-of-place}
-use Rattle.table.proofs.GraphLaws.{stays-iff}
+use Rattle.method.specs.declared.Row.{Row}
+use Rattle.method.specs.declared.Table.{Table}
+use Rattle.method.specs.Records.{freeRow, pastEnd, rowAt, highAt, committed, Goes}
+use Rattle.method.specs.Slots.{kept, entryOf}
+use Rattle.method.specs.Conditions.{Closed, HeldBack}
+use Rattle.method.specs.Effects.{stays, sweptRow, sweptTable}
+use Rattle.method.proofs.RecordLaws.{never, committed-iff}
+use Rattle.method.proofs.SlotLaws.{kept-of-place}
+use Rattle.method.proofs.GraphLaws.{stays-iff}
 use Rattle.runs.specs.Sound.{IsCommitted, Past, Gone}
 use Rattle.runs.specs.Invariant.{Invariant}
 use Rattle.runs.proofs.FreeLaws.{Blank, sound-freed, blank-past}

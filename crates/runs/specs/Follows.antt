@@ -7,12 +7,12 @@ use lib.ListN.{length, getD}
 use Rattle.graph.specs.Lists.{_∈_}
 use Rattle.rows.specs.Arrow.{ticketAt}
 use Rattle.rows.specs.Rows
-use Rattle.table.specs.declared.Stage.{Stage}
-use Rattle.table.specs.declared.Row.{Row}
-use Rattle.table.specs.declared.Table.{Table}
-use Rattle.table.specs.declared.Answer.{Answer}
-use Rattle.table.specs.Records.{noPart, rowAt, partAt, highAt}
-use Rattle.table.specs.Calls.{Call}
+use Rattle.method.specs.declared.Stage.{Stage}
+use Rattle.method.specs.declared.Row.{Row}
+use Rattle.method.specs.declared.Table.{Table}
+use Rattle.method.specs.declared.Answer.{Answer}
+use Rattle.method.specs.Records.{noPart, rowAt, partAt, highAt}
+use Rattle.method.specs.Calls.{Call}
 use Rattle.runs.specs.Run.{Run, after, Happened, Known, Opens, Begins, TakesTicket, Prepares, Commits, CommitsBeside, Over, BegunIn, begins}
 use Rattle.runs.specs.History.{history}
 use Rattle.runs.specs.Sound.{IsFree, IsActive, IsCommitted, num, Has, base, tick}

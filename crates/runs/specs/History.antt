@@ -2,9 +2,9 @@
 use mathlib.Core.List.{List, [], _∷_}
 use Prim.Native.Nat.{ℕ}
 use Rattle.rows.specs.Rows
-use Rattle.table.specs.declared.Table.{Table}
-use Rattle.table.specs.declared.Answer.{Answer}
-use Rattle.table.specs.Slots.{rowOfNumber, entryOf}
+use Rattle.method.specs.declared.Table.{Table}
+use Rattle.method.specs.declared.Answer.{Answer}
+use Rattle.method.specs.Slots.{rowOfNumber, entryOf}
 use Rattle.runs.specs.Run.{Run, Run.start, Run.call, after, answerTo}
 
 -- the list with the one that this answer commits

@@ -4,9 +4,9 @@ use mathlib.Core.List.{List, []}
 use Prim.Native.Nat.{ℕ, _≤_, _<_}
 use lib.ListN.{length}
 use Rattle.rows.specs.Rows
-use Rattle.table.specs.declared.Table.{Table}
-use Rattle.table.specs.Records.{freeRow, closed, rowAt, highAt}
-use Rattle.table.specs.Conditions.{Closed}
+use Rattle.method.specs.declared.Table.{Table}
+use Rattle.method.specs.Records.{freeRow, closed, rowAt, highAt}
+use Rattle.method.specs.Conditions.{Closed}
 use Rattle.runs.specs.Sound.{IsFree, Has, Sound}
 
 pub record Shape (t : Table) : Type 0 where

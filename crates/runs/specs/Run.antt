@@ -3,14 +3,14 @@ use mathlib.Core.Path.{_≡_}
 use mathlib.Core.List.{List, [], _∷_}
 use mathlib.Core.Logic.{_⊎_, _≢_}
 use Prim.Native.Nat.{ℕ, _+_}
-use Rattle.table.specs.declared.State.{State}
-use Rattle.table.specs.declared.Row.{Row}
-use Rattle.table.specs.declared.Table.{Table}
-use Rattle.table.specs.declared.Answer.{Answer}
-use Rattle.table.specs.Records.{number, closed, rowAt}
-use Rattle.table.specs.Calls.{Call}
-use Rattle.table.specs.Calls.Call.{openWith, begin, reportTicket, reportPrepared, abort, decide, forget, sweep}
-use Rattle.table.specs.Effects.{step}
+use Rattle.method.specs.declared.State.{State}
+use Rattle.method.specs.declared.Row.{Row}
+use Rattle.method.specs.declared.Table.{Table}
+use Rattle.method.specs.declared.Answer.{Answer}
+use Rattle.method.specs.Records.{number, closed, rowAt}
+use Rattle.method.specs.Calls.{Call}
+use Rattle.method.specs.Calls.Call.{openWith, begin, reportTicket, reportPrepared, abort, decide, forget, sweep}
+use Rattle.method.specs.Effects.{step}
 
 -- the calls of a run, the latest last
 pub data Run : Type 0 where

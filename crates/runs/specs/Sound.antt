@@ -12,11 +12,11 @@ use Rattle.rows.specs.Rows
 use Rattle.rows.specs.Rows.{RowArrow}
 use Rattle.rows.specs.Good.{Apart}
 use Rattle.sites.specs.Sites.{sitesOf}
-use Rattle.table.specs.declared.Stage.{Stage}
-use Rattle.table.specs.declared.State.{State}
-use Rattle.table.specs.declared.Row.{Row}
-use Rattle.table.specs.Slots.{entryOf}
-use Rattle.table.specs.Records.{partAt, ticketsOf}
+use Rattle.method.specs.declared.Stage.{Stage}
+use Rattle.method.specs.declared.State.{State}
+use Rattle.method.specs.declared.Row.{Row}
+use Rattle.method.specs.Slots.{entryOf}
+use Rattle.method.specs.Records.{partAt, ticketsOf}
 
 -- what a row says of itself, and of a site
 abbrev pub IsFree : Row → Type 0

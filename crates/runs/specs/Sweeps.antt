@@ -4,12 +4,12 @@ use mathlib.Core.List.{List, [], _∷_}
 use Prim.Native.Nat.{ℕ}
 use lib.ListN.{length}
 use Rattle.graph.specs.Lists.{keep}
-use Rattle.table.specs.declared.Row.{Row}
-use Rattle.table.specs.declared.Table.{Table}
-use Rattle.table.specs.declared.Answer.{Answer}
-use Rattle.table.specs.Records.{isFree}
-use Rattle.table.specs.Calls.Call.{forget}
-use Rattle.table.specs.Effects.{step}
+use Rattle.method.specs.declared.Row.{Row}
+use Rattle.method.specs.declared.Table.{Table}
+use Rattle.method.specs.declared.Answer.{Answer}
+use Rattle.method.specs.Records.{isFree}
+use Rattle.method.specs.Calls.Call.{forget}
+use Rattle.method.specs.Effects.{step}
 
 -- how many slots are free
 abbrev pub freeSlots : List Row → ℕ

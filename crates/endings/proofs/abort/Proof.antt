@@ -1,0 +1,99 @@
+-- `table::ending::abort` meets its contract: past the gate one check is left. Assumes nothing.
+use mathlib.Core.Path.{_≡_, sym, _∙_}
+use mathlib.Core.Bool.{Bool, not}
+use mathlib.Core.List.{List, [], _∷_}
+use Prim.Native.Nat.{ℕ}
+use native.Mathlib.Omega.{arith}
+use lib.ListN.{length}
+use borrow.Author.Needs.{needs}
+use Rattle.method.specs.declared.Table.{Table}
+use Rattle.slots.specs.declared.Gate.{Gate}
+use Rattle.method.specs.Records.{active}
+use Rattle.method.specs.Slots.{rowOfNumber}
+use Rattle.slots.specs.Gate.{gateOf}
+use Rattle.method.specs.Calls.{checks}
+use Rattle.method.specs.Effects.{act, effect, step}
+use Rattle.method.proofs.SearchLaws.{unmapped}
+use Rattle.slots.proofs.GateLaws.{Passed, gate-refused, gate-passed}
+use Rattle.endings.proofs.abort.Statement.{statement}
+use Rattle.endings.proofs.abort.Tie as tie
+
+abbrev rest : Table → ℕ → List (ℕ × Bool)
+rest t n = (4, not (active (rowOfNumber t n))) ∷ []
+
+enter-requires : tie.Need-enter-requires
+enter-requires c κs = search needs
+
+enum-known-k : tie.Need-enum-known-k
+enum-known-k c = search needs
+
+refuse-requires : tie.Need-refuse-requires
+refuse-requires c κs = search needs
+
+enum-known-slot : tie.Need-enum-known-slot
+enum-known-slot c = search needs
+
+-- past the gate
+module _ (c : tie.After-known-told2) where
+  abbrev t : Table
+  t = c .before .before .before .before .args .t1
+
+  abbrev n : ℕ
+  n = c .before .before .before .before .args .n .0
+
+  passed : Passed t n (c .before .slot .given .0 .0) (rest t n)
+  passed =
+      let l : length (t .rows) ≡ 32 = search (needs, unmapped) in
+      let e : gateOf t n ≡ Gate.At (c .before .slot .given .0 .0) = cc in
+      gate-passed t l n (c .before .slot .given .0 .0) (rest t n) e
+
+mul-row : tie.Need-mul-row
+mul-row c = omega (arith, passed c .inside)
+
+element-copy-out-row : tie.Need-element-copy-out-row
+element-copy-out-row c = passed c .inside
+
+is-active-requires : tie.Need-is-active-requires
+is-active-requires c κs = search needs
+
+refuse-requires-2 : tie.Need-refuse-requires-2
+refuse-requires-2 c κs = search needs
+
+returns : tie.Need-returns
+unfolding step act checks
+returns c =
+    let p = passed (c .before .before .before .before) in
+    c .refuse2 .ensures ∙ sym (rw (p .on, sym (p .slot), sym (c .before .before .is-active .ensures), c .before .if1 .taken))
+
+without-requires : tie.Need-without-requires
+without-requires c κs = passed (c .before .before .before) .inside
+
+returns-2 : tie.Need-returns-2
+unfolding step act checks
+returns-2 c =
+    let a = c .before .before .before .before .before .args in
+    let e : gateOf (a .t1) (a .n .0) ≡ Gate.Refused (c .before .before .k .given .0 .0) = cc in
+    c .refuse .ensures ∙ sym (rw (gate-refused (a .t1) (a .n .0) _ (rest (a .t1) (a .n .0)) e))
+
+returns-3 : tie.Need-returns-3
+unfolding step act checks effect
+returns-3 c =
+    let p = passed (c .before .before .before .before) in
+    c .without .ensures ∙ sym (rw (p .on, sym (p .slot), sym (c .before .before .is-active .ensures), c .before .if1 .left) (rw (p .slot)))
+
+pub abort-spec : {M : Type 1} → statement M
+abort-spec =
+    tie.close
+    (tie.spec
+    enter-requires
+    enum-known-k
+    refuse-requires
+    enum-known-slot
+    mul-row
+    element-copy-out-row
+    is-active-requires
+    refuse-requires-2
+    returns
+    without-requires
+    returns-2
+    returns-3)

@@ -1,0 +1,46 @@
+// The calls that free a slot at the caller's word: abort and forget. RULES, Calls.
+ghost use mathlib.Core.Path.{_≡_};
+ghost use Rattle.method.specs.Calls.Call.{abort as abortCall, forget as forgetCall};
+ghost use Rattle.method.specs.Effects.{step};
+use method::Answered;
+use method::Number;
+use method::Table;
+use slots::Gate;
+
+pub fn abort(t: Table, n: Number) -> Answered
+    ensures answer { λ r. ⌜ r ≡ step t (abortCall (n .0)) ⌝ }
+{
+    match slots::enter(t, n) {
+        Gate::Refused(k) => slots::refuse(t, k),
+        Gate::At(slot) => {
+            let row = t.rows[slot];
+            let state = row.state;
+            if !slots::is_active(state) {
+                return slots::refuse(t, 4);
+            }
+            slots::without(t, slot)
+        }
+    }
+}
+
+pub fn forget(t: Table, n: Number) -> Answered
+    ensures answer { λ r. ⌜ r ≡ step t (forgetCall (n .0)) ⌝ }
+{
+    match slots::enter(t, n) {
+        Gate::Refused(k) => slots::refuse(t, k),
+        Gate::At(slot) => {
+            let row = t.rows[slot];
+            let state = row.state;
+            if !slots::is_committed(state) {
+                return slots::refuse(t, 4);
+            }
+            if rivals::has_pred(t, row) {
+                return slots::refuse(t, 9);
+            }
+            if rivals::is_held_back(t, row) {
+                return slots::refuse(t, 9);
+            }
+            slots::without(t, slot)
+        }
+    }
+}

@@ -1,0 +1,10 @@
+pub mod TrialLaws
+pub mod RecordLaws
+pub mod ConditionLaws
+pub mod CallLaws
+pub mod SlotLaws
+pub mod RowLaws
+pub mod GraphLaws
+pub mod StageLaws
+pub mod SearchLaws
+pub mod CheckLaws
