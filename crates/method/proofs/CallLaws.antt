@@ -1,9 +1,9 @@
 -- Said once for all calls: a refused call changes nothing, refusal k is given exactly when k's condition holds and no earlier
 -- check of that call caught it, and a call that nothing refuses does what is written for it. Assumes nothing.
 use mathlib.Core.Path.{_≡_, refl, sym, ap, _∙_}
-use mathlib.Core.Bool.{Bool, true, false, not, false≢true, true≢false}
+use mathlib.Core.Bool.{Bool, true, false, false≢true}
 use mathlib.Core.List.{List, [], _∷_}
-use mathlib.Core.Logic.{_↔_, _⊎_, inl, inr}
+use mathlib.Core.Logic.{_↔_, inl, inr}
 use mathlib.Core.Option.{Option, none, some}
 use Prim.Native.Nat.{ℕ}
 use Rattle.graph.proofs.TestLaws.{iff-not}

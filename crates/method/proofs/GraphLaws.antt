@@ -1,12 +1,12 @@
 -- The test of a decision against cycles of the rows themselves, and what the sweep's test reaches. Assumes nothing.
 use mathlib.Core.Path.{_≡_}
-use mathlib.Core.Bool.{Bool, true}
+use mathlib.Core.Bool.{true}
 use mathlib.Core.List.{List, _∷_, map}
 use mathlib.Core.Logic.{_↔_}
 use Rattle.graph.specs.Lists.{_∈_}
-use Rattle.graph.specs.Path.{Cycle, Holds}
+use Rattle.graph.specs.Path.{Cycle}
 use Rattle.graph.specs.Acyclic.{acyclic}
-use Rattle.graph.specs.Reached.{Reached, reachedb}
+use Rattle.graph.specs.Reached.{Reached}
 use Rattle.graph.proofs.MapLaws.{mapped-cycle-iff}
 use Rattle.graph.proofs.ReachedLaws.{reachedb→reached, reached→reachedb, reached-of-weaker}
 use Rattle.rows.specs.Arrow.{Arrow, arrowb}

@@ -1,17 +1,15 @@
 -- What the rows that calls make hold at a site: a new row, a row with a report put in, a committed one; and the raised tickets.
 -- Assumes nothing.
-use mathlib.Core.Path.{_≡_, refl, sym, ap, _∙_}
-use mathlib.Core.List.{List, [], _∷_, map, List·Memᴰ·head as here, List·Memᴰ·tail as there, List·Memᴰ·not-nil}
-use mathlib.Core.Logic.{_≢_, _⊎_, inl, inr}
-use Prim.Native.Nat.{ℕ, zero, suc, _<_, _≤_, max}
+use mathlib.Core.Path.{_≡_, refl, ap, _∙_}
+use mathlib.Core.List.{List, [], _∷_, List·Memᴰ·head as here, List·Memᴰ·tail as there, List·Memᴰ·not-nil}
+use mathlib.Core.Logic.{_≢_}
+use Prim.Native.Nat.{ℕ, zero, suc, _<_, max}
 use native.Mathlib.Omega.{arith}
-use native.Mathlib.Decide.{ℕ-discrete}
-use lib.ListN.{length, getD, set, replicate, length-set, length-map, length-replicate, List·getD-map}
+use lib.ListN.{length, getD, set, replicate, length-set, length-map, List·getD-map}
 use lib.Seq.{getD-set-same, getD-set-other}
 use Rattle.graph.specs.Lists.{_∈_}
-use Rattle.graph.proofs.MemberLaws.{member-or-not}
 use Rattle.rows.specs.Arrow.{ticketAt}
-use Rattle.sites.specs.Sites.{sitesOf, Rising}
+use Rattle.sites.specs.Sites.{Rising}
 use Rattle.method.specs.declared.Ticket.{Ticket}
 use Rattle.method.specs.declared.Part.{Part}
 use Rattle.method.specs.declared.Row.{Row}

@@ -1,6 +1,5 @@
 -- Each report is taken at one stage only: a ticket where the site has begun, prepared where it has its ticket. Assumes nothing.
 use mathlib.Core.Path.{_≡_, refl}
-use mathlib.Core.Logic.{_≢_}
 use Rattle.method.specs.declared.Stage.{Stage}
 use Rattle.method.specs.declared.Report.{Report}
 use Rattle.method.specs.declared.Step.{Step}

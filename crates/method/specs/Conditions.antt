@@ -1,7 +1,7 @@
 -- What each refusal looks at: the condition in the words of RULES, Refusals, and beside it the test that computes it.
 -- proofs/ConditionLaws.antt joins each pair both ways, on every table.
 use mathlib.Core.Path.{_≡_}
-use mathlib.Core.Bool.{Bool, true, not, _&&_, _||_}
+use mathlib.Core.Bool.{Bool, not, _&&_, _||_}
 use mathlib.Core.List.{List, []}
 use mathlib.Core.Logic.{_≢_, _⊎_}
 use Prim.Native.Nat.{ℕ, _<_, _≤_}
@@ -15,7 +15,7 @@ use Rattle.method.specs.declared.Report.{Report}
 use Rattle.method.specs.declared.Step.{Step}
 use Rattle.method.specs.declared.Row.{Row}
 use Rattle.method.specs.declared.Table.{Table}
-use Rattle.method.specs.Records.{partAt, isFree, inUse, active, committed, isPrepared, Goes, goesb}
+use Rattle.method.specs.Records.{partAt, isFree, inUse, active, isPrepared, Goes, goesb}
 use Rattle.method.specs.Stages.{stepOf, isRefused}
 use Rattle.method.specs.Slots.{hasNumber, kept, activeRows}
 

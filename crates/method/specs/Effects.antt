@@ -10,7 +10,6 @@ use Rattle.graph.specs.Reached.{reachedb}
 use Rattle.rows.specs.Arrow.{arrowb}
 use Rattle.sites.specs.Sites.{sitesOf}
 use Rattle.method.specs.declared.Ticket.{Ticket}
-use Rattle.method.specs.declared.Stage.{Stage}
 use Rattle.method.specs.declared.State.{State}
 use Rattle.method.specs.declared.Report.{Report}
 use Rattle.method.specs.declared.Part.{Part}
@@ -18,7 +17,7 @@ use Rattle.method.specs.declared.Row.{Row}
 use Rattle.method.specs.declared.Table.{Table}
 use Rattle.method.specs.declared.Answer.{Answer}
 use Rattle.method.specs.declared.Answered.{Answered}
-use Rattle.method.specs.Records.{number, ticket, part, noPart, rowOf, freeRow, tableOf, rowAt, partAt, committed, ticketsOf, goesb, withRows, withRow, withHigh, withLast, withPart}
+use Rattle.method.specs.Records.{number, ticket, part, noPart, rowOf, freeRow, tableOf, partAt, committed, ticketsOf, goesb, withRows, withRow, withHigh, withLast, withPart}
 use Rattle.method.specs.Stages.{firstStage, stepOf, stageTo}
 use Rattle.method.specs.Slots.{slotOf, rowOfNumber, freeSlot, kept}
 use Rattle.method.specs.Conditions.{heldBack}

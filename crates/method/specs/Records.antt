@@ -1,5 +1,4 @@
 -- The values that a table starts from, what a row says of itself, and one helper for each field that a call changes.
-use mathlib.Core.Path.{_≡_}
 use mathlib.Core.Bool.{Bool, true, false, not}
 use mathlib.Core.List.{List, [], map}
 use Prim.Native.Nat.{ℕ}

@@ -1,10 +1,10 @@
 -- The worked cases P1 to P11, each with its label: what is asked, and what must come of it. The first number is 1 and the
 -- floors are 0 unless a case says otherwise. proofs/TrialLaws.antt proves them all by computation.
-use mathlib.Core.List.{List, [], _∷_, _++_, map}
+use mathlib.Core.List.{List, [], _∷_, _++_}
 use Prim.Native.Nat.{ℕ, zero, suc}
 use lib.ListN.{replicate}
 use Rattle.rows.specs.Reply.{Reply}
-use Rattle.rows.specs.Reply.Reply.{refused, yes, no, wrote}
+use Rattle.rows.specs.Reply.Reply.{refused, yes, no}
 use Rattle.rows.specs.Order.{checkResult}
 use Rattle.rows.specs.Write.{writeResult}
 use Rattle.method.specs.declared.Answer.{Answer}

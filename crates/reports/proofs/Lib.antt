@@ -1,2 +1,3 @@
 pub mod PlaceLaws
+pub mod ReportLaws
 pub mod TicketLaws

@@ -20,7 +20,7 @@ use Rattle.method.specs.Records.{part, rowAt, partAt, withRow, withPart}
 use Rattle.method.specs.Stages.{stepOf, isRefused, stageTo}
 use Rattle.method.specs.Slots.{slotOf, rowOfNumber}
 use Rattle.method.specs.Conditions.{notListed, noStep}
-use Rattle.method.specs.Calls.{checks, firstTrue}
+use Rattle.method.specs.Calls.{firstTrue}
 use Rattle.method.specs.Effects.{answered, reported}
 use Rattle.reports.specs.declared.Place.{Place}
 use Rattle.reports.specs.Place.{stepPlace, placeOf}

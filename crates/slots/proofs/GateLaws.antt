@@ -11,7 +11,7 @@ use Rattle.graph.proofs.TestLaws.{true-or-false, true-not-false}
 use Rattle.method.specs.declared.Table.{Table}
 use Rattle.method.specs.Slots.{slotOf}
 use Rattle.method.specs.Conditions.{isClosed, unknown}
-use Rattle.method.specs.Calls.{checks, firstTrue}
+use Rattle.method.specs.Calls.{firstTrue}
 use Rattle.slots.specs.declared.Gate.{Gate}
 use Rattle.slots.specs.Gate.{gateOf}
 use Rattle.method.proofs.RecordLaws.{never}

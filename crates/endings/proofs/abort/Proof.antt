@@ -1,4 +1,4 @@
--- `table::ending::abort` meets its contract: past the gate one check is left. Assumes nothing.
+-- `endings::abort` meets its contract: past the gate one check is left. Assumes nothing.
 use mathlib.Core.Path.{_≡_, sym, _∙_}
 use mathlib.Core.Bool.{Bool, not}
 use mathlib.Core.List.{List, [], _∷_}

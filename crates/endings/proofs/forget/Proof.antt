@@ -1,4 +1,4 @@
--- `table::ending::forget` meets its contract: past the gate two checks are left, the second of two parts. Assumes nothing.
+-- `endings::forget` meets its contract: past the gate two checks are left, the second of two parts. Assumes nothing.
 use mathlib.Core.Path.{_≡_, sym, _∙_}
 use mathlib.Core.Bool.{Bool, not}
 use mathlib.Core.List.{List, [], _∷_}

@@ -1,7 +1,6 @@
--- `table::reports::next_place` meets its contract. Assumes nothing.
+-- `reports::next_place` meets its contract. Assumes nothing.
 use mathlib.Core.Path.{_≡_, sym, _∙_}
-use mathlib.Core.Bool.{true, false}
-use Prim.Native.Nat.{ℕ, _<_}
+use mathlib.Core.Bool.{true}
 use borrow.Author.Needs.{needs}
 use borrow.Author.Tests.{not-false}
 use Rattle.sites.specs.Sites.{listed}

@@ -1,4 +1,4 @@
--- `table::reports::next_step` meets its contract: the table's six entries are the definition's six cases. Assumes nothing.
+-- `reports::next_step` meets its contract: the table's six entries are the definition's six cases. Assumes nothing.
 use mathlib.Core.Path.{_≡_, refl}
 use mathlib.Core.List.{List, [], _∷_}
 use lib.ListN.{getD}

@@ -1,7 +1,7 @@
--- `table::rivals::goes_before` meets its contract: what is found from site 0 on is what is found from site s on. Assumes nothing.
+-- `rivals::goes_before` meets its contract: what is found from site 0 on is what is found from site s on. Assumes nothing.
 use mathlib.Core.Path.{_≡_, refl, sym, _∙_}
 use mathlib.Core.Bool.{Bool}
-use Prim.Native.Nat.{ℕ, _≤_, _<_, _-_}
+use Prim.Native.Nat.{ℕ, _≤_, _-_}
 use native.Mathlib.Omega.{arith}
 use lib.ListN.{length, drop}
 use borrow.Author.Needs.{needs}

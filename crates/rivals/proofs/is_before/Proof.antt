@@ -1,5 +1,5 @@
--- `table::rivals::is_before` meets its contract. Assumes nothing.
-use mathlib.Core.Path.{_≡_, sym}
+-- `rivals::is_before` meets its contract. Assumes nothing.
+use mathlib.Core.Path.{sym}
 use borrow.Author.Tests.{lt-ltb, le-ltb}
 use Rattle.rivals.proofs.is_before.Statement.{statement}
 use Rattle.rivals.proofs.is_before.Tie as tie

@@ -1,5 +1,5 @@
--- `table::rivals::is_held_back` meets its contract: what is found from the front is what is found from i on. Assumes nothing.
-use mathlib.Core.Path.{_≡_, refl, sym, _∙_}
+-- `rivals::is_held_back` meets its contract: what is found from the front is what is found from i on. Assumes nothing.
+use mathlib.Core.Path.{_≡_, sym, _∙_}
 use mathlib.Core.Bool.{Bool, _&&_}
 use Prim.Native.Nat.{_≤_, _-_}
 use native.Mathlib.Omega.{arith}

@@ -1,5 +1,5 @@
--- `table::rivals::is_older` meets its contract. Assumes nothing.
-use mathlib.Core.Path.{_≡_, sym, _∙_}
+-- `rivals::is_older` meets its contract. Assumes nothing.
+use mathlib.Core.Path.{sym, _∙_}
 use borrow.Author.Needs.{needs}
 use Rattle.rivals.proofs.is_older.Statement.{statement}
 use Rattle.rivals.proofs.is_older.Tie as tie

@@ -1,4 +1,4 @@
--- `table::rivals::is_taken` meets its contract: what is found from the front is what is found from i on. Assumes nothing.
+-- `rivals::is_taken` meets its contract: what is found from the front is what is found from i on. Assumes nothing.
 use mathlib.Core.Path.{_≡_, refl, sym, _∙_}
 use mathlib.Core.Bool.{Bool}
 use Prim.Native.Nat.{_≤_, _-_}

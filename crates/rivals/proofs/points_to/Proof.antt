@@ -1,5 +1,5 @@
--- `table::rivals::points_to` meets its contract. Assumes nothing.
-use mathlib.Core.Path.{_≡_, sym, _∙_}
+-- `rivals::points_to` meets its contract. Assumes nothing.
+use mathlib.Core.Path.{sym, _∙_}
 use borrow.Author.Needs.{needs}
 use Rattle.rivals.proofs.points_to.Statement.{statement}
 use Rattle.rivals.proofs.points_to.Tie as tie

@@ -1,4 +1,4 @@
--- `table::slots::enter` meets its contract. Assumes nothing.
+-- `slots::enter` meets its contract. Assumes nothing.
 use mathlib.Core.Path.{_≡_, sym, _∙_}
 use lib.ListN.{length}
 use borrow.Author.Needs.{needs}

@@ -1,5 +1,5 @@
--- `table::slots::has_number` meets its contract. Assumes nothing.
-use mathlib.Core.Path.{_≡_, sym, _∙_}
+-- `slots::has_number` meets its contract. Assumes nothing.
+use mathlib.Core.Path.{sym, _∙_}
 use borrow.Author.Needs.{needs}
 use Rattle.slots.proofs.has_number.Statement.{statement}
 use Rattle.slots.proofs.has_number.Tie as tie

@@ -1,5 +1,5 @@
--- `table::slots::lowest_free` meets its contract: what is found from the front is what is found from i on. Assumes nothing.
-use mathlib.Core.Path.{_≡_, refl, sym, _∙_}
+-- `slots::lowest_free` meets its contract: what is found from the front is what is found from i on. Assumes nothing.
+use mathlib.Core.Path.{_≡_, sym, _∙_}
 use Prim.Native.Nat.{_≤_, _-_, _+_}
 use native.Mathlib.Nat.{zero-add}
 use native.Mathlib.Omega.{arith}

@@ -1,5 +1,4 @@
--- `table::ending::without` meets its contract. Assumes nothing.
-use mathlib.Core.Path.{_≡_}
+-- `slots::without` meets its contract. Assumes nothing.
 use borrow.Author.Needs.{needs}
 use Rattle.slots.proofs.without.Statement.{statement}
 use Rattle.slots.proofs.without.Tie as tie
