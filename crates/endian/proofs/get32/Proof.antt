@@ -1,0 +1,54 @@
+-- `endian::get32` meets its contract: past the end there are only zeros. Assumes nothing.
+use mathlib.Core.Path.{sym}
+use borrow.Author.Needs.{needs}
+use denote.Ref.{now}
+use Rattle.endian.proofs.PlacesLaws.{word32-past}
+use Rattle.endian.proofs.get32.Statement.{statement}
+use Rattle.endian.proofs.get32.Tie as tie
+
+shared-slice-read-join32 : tie.Need-shared-slice-read-join32
+shared-slice-read-join32 c = search needs
+
+add-get8 : tie.Need-add-get8
+add-get8 c = search needs
+
+get8-requires : tie.Need-get8-requires
+get8-requires c κs = search needs
+
+add-get8-2 : tie.Need-add-get8-2
+add-get8-2 c = search needs
+
+get8-requires-2 : tie.Need-get8-requires-2
+get8-requires-2 c κs = search needs
+
+add-get8-3 : tie.Need-add-get8-3
+add-get8-3 c = search needs
+
+get8-requires-3 : tie.Need-get8-requires-3
+get8-requires-3 c κs = search needs
+
+join32-requires : tie.Need-join32-requires
+join32-requires c κs = search needs
+
+returns : tie.Need-returns
+returns c = search needs
+
+returns-2 : tie.Need-returns-2
+returns-2 c =
+    let a = c .before .before .args in
+    sym (word32-past (now (a .s)) (a .at) (c .if1 .left))
+
+pub get32-spec : {M : Type 1} → statement M
+get32-spec =
+    tie.close
+    (tie.spec
+    shared-slice-read-join32
+    add-get8
+    get8-requires
+    add-get8-2
+    get8-requires-2
+    add-get8-3
+    get8-requires-3
+    join32-requires
+    returns
+    returns-2)
