@@ -58,6 +58,13 @@ module _ (l vs : List ℕ) (at : ℕ) (h : at + length vs ≤ length l) where
       sym (drop-drop w (at + length vs) (laid l at vs)) ∙ rw drop-laid-behind (drop-drop w (at + length vs) l) in
       rw (take-laid-through, d) (simp (append-assoc, length-append, add-assoc))
 
+-- two writers one behind the other, with room for both
+pub stored-of-stored : (l vs ws : List ℕ) (at : ℕ) → at + length vs + length ws ≤ length l → stored (stored l at vs) (at + length vs) ws ≡ laid l at (vs ++ ws)
+stored-of-stored l vs ws at h =
+    let k : at + length vs ≤ length l = omega arith in
+    let e = stored-of-room (laid l at vs) ws (at + length vs) (rw (length-laid l vs at k) h) in
+    ap (λ (m : List ℕ). stored m (at + length vs) ws) (sym (stored-of-room l vs at k .1)) ∙ sym (e .1) ∙ laid-of-laid l vs at k ws
+
 -- a number that is written is read again
 pub word16-of-laid : (l : List ℕ) (at x : ℕ) → at + 2 ≤ length l → word16 (laid l at (bytes16 x)) at ≡ x
 word16-of-laid l at x h = word16-at (laid l at (bytes16 x)) at ∙ rw (drop-laid l (bytes16 x) at h) (be16-of-bytes16 x)

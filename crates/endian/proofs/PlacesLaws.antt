@@ -1,15 +1,15 @@
 -- What is read at a place, past the end too, is what is read at the front of the rest. Assumes nothing.
 use mathlib.Core.Path.{_≡_, _∙_, sym, ap}
-use mathlib.Core.List.{List, [], _∷_}
-use Prim.Native.Nat.{ℕ, _+_, _≤_}
+use mathlib.Core.List.{List, [], _∷_, _++_}
+use Prim.Native.Nat.{ℕ, _+_, _≤_, _<_, _^_}
 use native.Mathlib.Nat.{add-zero, add-assoc}
 use native.Mathlib.Omega.{arith}
-use lib.ListN.{length, getD, take, drop, length-drop, List·getD-eq-default}
-use lib.Seq.{getD-drop}
+use lib.ListN.{length, getD, take, drop, length-drop, take-append-drop, List·getD-eq-default}
+use lib.Seq.{getD-drop, drop-drop}
 use Rattle.endian.specs.Bytes.{bytes16, bytes32}
 use Rattle.endian.specs.Places.{Below, word16, word32}
 use Rattle.endian.proofs.BytesLaws.{bytes16-of-be16, bytes32-of-be32}
-use Rattle.endian.proofs.BelowLaws.{below-drop}
+use Rattle.endian.proofs.BelowLaws.{below-drop, getD-of-below, be32-lt}
 
 module _ (s : List ℕ) (at : ℕ) (h : length s ≤ at) where
   zero-past : (k : ℕ) → getD s (at + k) 0 ≡ 0
@@ -51,3 +51,13 @@ bytes16-of-word16 s at h b = rw (word16-at s at) (bytes16-of-front (drop at s) (
 
 pub bytes32-of-word32 : (s : List ℕ) (at : ℕ) → at + 4 ≤ length s → Below 256 s → bytes32 (word32 s at) ≡ take 4 (drop at s)
 bytes32-of-word32 s at h b = rw (word32-at s at) (bytes32-of-front (drop at s) (simp length-drop (omega arith)) (below-drop 256 at s b))
+
+-- the list from a place on, as its first number and the rest
+pub drop-of-word32 : (s : List ℕ) (at : ℕ) → at + 4 ≤ length s → Below 256 s → drop at s ≡ bytes32 (word32 s at) ++ drop (at + 4) s
+drop-of-word32 s at h b =
+    sym (ap (λ (r : List ℕ). r ++ drop (at + 4) s) (bytes32-of-word32 s at h b) ∙ rw (← drop-drop 4 at s) (take-append-drop 4 (drop at s)))
+
+pub word32-lt : (s : List ℕ) (at : ℕ) → Below 256 s → word32 s at < 2 ^ 32
+word32-lt s at b =
+    let g = getD-of-below 256 s (omega arith) b in
+    be32-lt (getD s at 0) (getD s (at + 1) 0) (getD s (at + 2) 0) (getD s (at + 3) 0) (g at) (g (at + 1)) (g (at + 2)) (g (at + 3))
