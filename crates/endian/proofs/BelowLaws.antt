@@ -1,9 +1,8 @@
 -- Ranges: the bytes of a number of 32 bits are below 256, and the number of four bytes is below 2 ^ 32. Assumes nothing.
-use mathlib.Core.Path.{_≡_}
 use mathlib.Core.List.{List, [], _∷_, _++_}
 use Prim.Native.Nat.{ℕ, zero, suc, _<_, _^_}
 use native.Mathlib.Omega.{arith}
-use lib.ListN.{length, getD, take, drop}
+use lib.ListN.{getD, take, drop}
 use Rattle.endian.specs.Bytes.{be32, bytes32, words, wordBytes}
 use Rattle.endian.specs.Places.{Below}
 

@@ -1,11 +1,10 @@
 -- Bytes and numbers determine each other, one number at a time. Each law on 32 bits is the law on 16 at three places. Assumes nothing.
-use mathlib.Core.Path.{_≡_, _∙_, ap}
-use mathlib.Core.List.{List, [], _∷_}
-use Prim.Native.Nat.{ℕ, _+_, _*_, _/_, _%_, _<_, _^_}
+use mathlib.Core.Path.{_≡_}
+use mathlib.Core.List.{[], _∷_}
+use Prim.Native.Nat.{ℕ, _*_, _/_, _%_, _<_}
 use native.Mathlib.Nat.{div-div-eq-div-mul, div-add-mod'}
 use native.Mathlib.Omega.{arith}
 use Rattle.endian.specs.Bytes.{be16, be32, bytes16, bytes32}
-use Rattle.endian.specs.Places.{Below}
 
 -- the last byte of x / k, behind all that is above it
 be16-of-div : (x k : ℕ) → be16 (x / (k * 256)) (x / k % 256) ≡ x / k

@@ -7,7 +7,7 @@ use native.Mathlib.Numerals.{add-one}
 use native.Mathlib.Omega.{arith}
 use lib.ListN.{length, getD, drop, set, length-drop}
 use lib.Seq.{paste, paste-suc}
-use Rattle.endian.specs.Bytes.{be32, bytes32, words, wordBytes}
+use Rattle.endian.specs.Bytes.{words, wordBytes}
 use Rattle.endian.specs.Places.{Below, word32}
 use Rattle.endian.proofs.BytesLaws.{be32-of-bytes32, bytes32-of-be32}
 use Rattle.endian.proofs.PlacesLaws.{word32-of-drop}
@@ -43,6 +43,10 @@ length-words (a ∷ []) = refl
 length-words (a ∷ b ∷ []) = refl
 length-words (a ∷ b ∷ c ∷ []) = refl
 length-words (a ∷ b ∷ c ∷ d ∷ l) = let e = length-words l in omega arith
+
+-- n numbers from a place to the end
+pub length-words-of-drop : (s : List ℕ) (at n : ℕ) → length s ≡ at + 4 * n → length (words (drop at s)) ≡ n
+length-words-of-drop s at n h = length-words (drop at s) ∙ simp length-drop (omega arith)
 
 words-of-front : (s : List ℕ) → 4 ≤ length s → words s ≡ word32 s 0 ∷ words (drop 4 s)
 unfolding words

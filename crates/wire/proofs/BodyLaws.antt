@@ -1,9 +1,9 @@
 -- Message and body determine each other: a body in range is read as its message, and what is read as a message is that message's
 -- body. Kind by kind, the fields are taken off the front. Assumes nothing.
-use mathlib.Core.Path.{_≡_, _∙_, refl, sym, ap, subst}
+use mathlib.Core.Path.{_≡_, _∙_, refl, sym, ap}
 use mathlib.Core.List.{List, [], _∷_, _++_}
-use mathlib.Core.Option.{Option, none, some, Option·map, map-eq-some-iff, Option·none-ne-some}
-use Prim.Native.Nat.{ℕ, zero, suc, _+_, _-_, _*_, _/_, _%_, _<_, _≤_, _^_}
+use mathlib.Core.Option.{none, some, map-eq-some-iff, Option·none-ne-some}
+use Prim.Native.Nat.{ℕ, suc, _+_, _*_, _<_, _≤_, _^_}
 use native.Mathlib.Omega.{arith}
 use lib.ListN.{length, getD, drop, length-drop, drop-of-length-le}
 use lib.Seq.{drop-cons}
@@ -12,11 +12,11 @@ use Rattle.endian.specs.Places.{Below, word32}
 use Rattle.endian.proofs.BytesLaws.{be32-of-bytes32}
 use Rattle.endian.proofs.BelowLaws.{below-append, below-drop, below-words, below-bytes32, below-wordBytes, getD-of-below}
 use Rattle.endian.proofs.PlacesLaws.{drop-of-word32, word32-lt}
-use Rattle.endian.proofs.WordsLaws.{words-of-wordBytes, wordBytes-of-words, length-words, length-wordBytes}
+use Rattle.endian.proofs.WordsLaws.{words-of-wordBytes, wordBytes-of-words, length-words-of-drop, length-wordBytes}
 use Rattle.wire.specs.Message.{Message, opening, beginning, ticketing, preparing, aborting, deciding, forgetting, sweeping, proposing, ordering, bodyOf, InRange}
 use Rattle.wire.specs.Kinds.{HasLength, entriesOf}
 use Rattle.wire.specs.Body.{messageAt, messageOf}
-use Rattle.wire.proofs.TestLaws.{Each, each-below}
+use Rattle.wire.proofs.CaseLaws.{by-kind}
 use Rattle.wire.proofs.KindsLaws.{length-of-entries, entries-of-length, length-le-of-entries}
 
 message-of-entries : (b : List ℕ) (n : ℕ) → HasLength (getD b 0 0) n (length b) → messageOf b ≡ some (messageAt (getD b 0 0) b)
@@ -26,7 +26,7 @@ pub message-of-body : (m : Message) → InRange m → messageOf (bodyOf m) ≡ s
 unfolding entriesOf messageAt
 message-of-body (opening n fs) h =
     message-of-entries (bodyOf (opening n fs)) (length fs)
-    (record { known = omega arith; fewest = omega arith; most = h .1; bytes = omega (arith, length-wordBytes fs) })
+    (record { known = omega arith; enough = omega arith; few = h .1; bytes = omega (arith, length-wordBytes fs) })
     ∙ rw (be32-of-bytes32 n, words-of-wordBytes fs)
 message-of-body (beginning s) h = refl
 message-of-body (ticketing n s k) h = rw (be32-of-bytes32 n, be32-of-bytes32 k)
@@ -37,7 +37,7 @@ message-of-body (forgetting n) h = rw (be32-of-bytes32 n)
 message-of-body sweeping h = refl
 message-of-body (proposing ns) h =
     message-of-entries (bodyOf (proposing ns)) (length ns)
-    (record { known = omega arith; fewest = omega arith; most = h .0; bytes = omega (arith, length-wordBytes ns) })
+    (record { known = omega arith; enough = omega arith; few = h .0; bytes = omega (arith, length-wordBytes ns) })
     ∙ rw (words-of-wordBytes ns)
 message-of-body ordering h = refl
 
@@ -66,36 +66,20 @@ module _ (b : List ℕ) (below : Below 256 b) where
   number-alone k e h = kind k e (omega arith) ∙ rw (number 1 (omega arith), end 5 (omega arith))
 
   -- the fields of each kind make up the whole body
-  bodies : Each BodyAt 10
+  body-at : (k : ℕ) → k < 10 → BodyAt k
   unfolding messageAt
-  bodies = (
-    λ n e h. kind 0 e (omega arith) ∙ rw (numbers 5 n (h .bytes), number 1 (omega arith)),
-    (
-      λ n e h. kind 1 e (omega arith) ∙ rw (byte 1 (omega arith), end 2 (omega arith)),
-      (
-        λ n e h. kind 2 e (omega arith) ∙ rw (number 1 (omega arith), byte 5 (omega arith), number 6 (omega arith), end 10 (omega arith)),
-        (
-          λ n e h. kind 3 e (omega arith) ∙ rw (number 1 (omega arith), byte 5 (omega arith), end 6 (omega arith)),
-          (
-            λ n e h. number-alone 4 e (omega arith),
-            (
-              λ n e h. number-alone 5 e (omega arith),
-              (
-                λ n e h. number-alone 6 e (omega arith),
-                (
-                  λ n e h. kind 7 e (omega arith) ∙ rw (end 1 (omega arith)),
-                  (
-                    λ n e h. kind 8 e (omega arith) ∙ rw (numbers 1 n (h .bytes)),
-                    (λ n e h. kind 9 e (omega arith) ∙ rw (end 1 (omega arith)), tt),
-                  ),
-                ),
-              ),
-            ),
-          ),
-        ),
-      ),
-    ),
-  )
+  body-at =
+      by-kind BodyAt
+      (λ n e h. kind 0 e (omega arith) ∙ rw (numbers 5 n (h .bytes), number 1 (omega arith)))
+      (λ n e h. kind 1 e (omega arith) ∙ rw (byte 1 (omega arith), end 2 (omega arith)))
+      (λ n e h. kind 2 e (omega arith) ∙ rw (number 1 (omega arith), byte 5 (omega arith), number 6 (omega arith), end 10 (omega arith)))
+      (λ n e h. kind 3 e (omega arith) ∙ rw (number 1 (omega arith), byte 5 (omega arith), end 6 (omega arith)))
+      (λ n e h. number-alone 4 e (omega arith))
+      (λ n e h. number-alone 5 e (omega arith))
+      (λ n e h. number-alone 6 e (omega arith))
+      (λ n e h. kind 7 e (omega arith) ∙ rw (end 1 (omega arith)))
+      (λ n e h. kind 8 e (omega arith) ∙ rw (numbers 1 n (h .bytes)))
+      (λ n e h. kind 9 e (omega arith) ∙ rw (end 1 (omega arith)))
 
   word : (at : ℕ) → word32 b at < 2 ^ 32
   word at = word32-lt b at below
@@ -106,43 +90,24 @@ module _ (b : List ℕ) (below : Below 256 b) where
   list : (at : ℕ) → Below (2 ^ 32) (words (drop at b))
   list at = below-words (drop at b) (below-drop 256 at b below)
 
-  count : (at n : ℕ) → length b ≡ at + 4 * n → length (words (drop at b)) ≡ n
-  count at n h = length-words (drop at b) ∙ simp length-drop (omega arith)
-
   abbrev RangeAt : ℕ → Type 0
   RangeAt k = (n : ℕ) → HasLength k n (length b) → InRange (messageAt k b)
 
   -- what is read fits its field
-  ranges : Each RangeAt 10
+  range-at : (k : ℕ) → k < 10 → RangeAt k
   unfolding messageAt
-  ranges = (
-    λ n h. (word 1, omega (arith, count 5 n (h .bytes)), list 5),
-    (
-      λ n h. octet 1,
-      (
-        λ n h. (word 1, octet 5, word 6),
-        (
-          λ n h. (word 1, octet 5),
-          (
-            λ n h. word 1,
-            (
-              λ n h. word 1,
-              (
-                λ n h. word 1,
-                (
-                  λ n h. tt,
-                  (
-                    λ n h. (omega (arith, count 1 n (h .bytes)), list 1),
-                    (λ n h. tt, tt),
-                  ),
-                ),
-              ),
-            ),
-          ),
-        ),
-      ),
-    ),
-  )
+  range-at =
+      by-kind RangeAt
+      (λ n h. (word 1, omega (arith, length-words-of-drop b 5 n (h .bytes)), list 5))
+      (λ n h. octet 1)
+      (λ n h. (word 1, octet 5, word 6))
+      (λ n h. (word 1, octet 5))
+      (λ n h. word 1)
+      (λ n h. word 1)
+      (λ n h. word 1)
+      (λ n h. tt)
+      (λ n h. (omega (arith, length-words-of-drop b 1 n (h .bytes)), list 1))
+      (λ n h. tt)
 
   -- a body that is read as a message is that message's body, and the message is in range
   pub body-of-message : (m : Message) → messageOf b ≡ some m → (bodyOf m ≡ b) × InRange m
@@ -150,7 +115,7 @@ module _ (b : List ℕ) (below : Below 256 b) where
       let k = getD b 0 0 in
       let (n, c, a) = map-eq-some-iff (λ (n : ℕ). messageAt k b) (entriesOf k (length b)) .0 e in
       let h = length-of-entries k (length b) n c in
-      rw (← a) (sym (each-below BodyAt 10 bodies k (h .known) n refl h), each-below RangeAt 10 ranges k (h .known) n h)
+      rw (← a) (sym (body-at k (h .known) n refl h), range-at k (h .known) n h)
 
 -- where there is no message, 10, no message has that body
 pub no-body-of-none : (b : List ℕ) → messageOf b ≡ none → (m : Message) → InRange m → bodyOf m ≡ b → ⊥

@@ -2,17 +2,17 @@
 -- Assumes nothing.
 use mathlib.Core.Path.{_≡_, _∙_, refl, sym, ap, ap₂}
 use mathlib.Core.Bool.{Bool, true, false, cond, not}
-use mathlib.Core.List.{List, [], _∷_, _++_, append-assoc}
-use Prim.Native.Nat.{ℕ, zero, suc, _+_, _-_, _<_, _≤_, _/_, _%_}
+use mathlib.Core.List.{List, [], _∷_}
+use Prim.Native.Nat.{ℕ, zero, _+_, _-_, _<_, _≤_, _/_, _%_}
 use native.Mathlib.Omega.{arith}
-use borrow.Author.Tests.{le-ltb, eq-eqb, ne-eqb, ltb-true, ltb-false, eqb-true, eqb-false, not-true, not-false}
+use borrow.Author.Tests.{ltb-true, ltb-false, eqb-true, eqb-false}
 use lib.Dec.{ltb, eqb}
-use lib.ListN.{length, getD, take, drop, length-append, length-drop, take-append-drop, List·getD-append}
-use lib.Seq.{drop-cons, drop-drop, length-take-le, take-append-seam, drop-append-seam}
-use Rattle.endian.specs.Bytes.{be16, bytes16}
+use lib.ListN.{length, getD, take, drop, length-append, take-append-drop}
+use lib.Seq.{drop-drop, length-take-le, take-append-seam, drop-append-seam}
+use Rattle.endian.specs.Bytes.{be16}
 use Rattle.endian.specs.Places.{word16}
 use Rattle.endian.proofs.BytesLaws.{be16-of-bytes16}
-use Rattle.wire.specs.Frame.{frameOf, Framed, Bad, version, over, Cut, Next, nothing, cut, bad, whole, Means, nextFrame}
+use Rattle.wire.specs.Frame.{Framed, bodyTo, EndsAt, Bad, version, over, Cut, Next, nothing, cut, bad, whole, Means, nextFrame}
 
 pub nil-of-length : (l : List ℕ) → length l ≡ 0 → l ≡ []
 nil-of-length [] h = refl
@@ -38,6 +38,15 @@ module _ (l b r : List ℕ) (f : Framed l b r) where
 
   pub rest-framed : r ≡ drop (word16 l 1) (drop 3 l)
   rest-framed = rw (word-framed, f .bytes) (sym (drop-append-seam b r))
+
+-- the body and the rest by the place where the frame ends
+pub ends-framed : (l : List ℕ) (e : ℕ) (b r : List ℕ) → Framed l b r → 3 + length b ≡ e → (b ≡ bodyTo e l) × EndsAt e l
+ends-framed l e b r f h =
+    let k : word16 l 1 ≡ e - 3 = word-framed l b r f ∙ omega arith in
+    let j : 3 + (e - 3) ≡ e = omega arith in
+    let p : b ≡ bodyTo e l = body-framed l b r f ∙ rw k in
+    let q : r ≡ drop e l = rest-framed l b r f ∙ rw (k, drop-drop (e - 3) 3 l, j) in
+    (p, record { start = omega arith; within = omega (arith, length-framed l b r f); front = rw (← p, ← q) f })
 
 -- the header's three bytes and the body, where the length says so
 framed-of-length : (l : List ℕ) → getD l 0 0 ≡ 1 → word16 l 1 ≤ 160 → 3 + word16 l 1 ≤ length l →

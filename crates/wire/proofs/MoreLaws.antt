@@ -1,11 +1,10 @@
 -- When more bytes come behind: a frame in front stays, with the new bytes behind it, and an 11 stays. Assumes nothing.
 use mathlib.Core.Path.{_≡_, _∙_, ap}
 use mathlib.Core.List.{List, _++_, append-assoc}
-use Prim.Native.Nat.{ℕ, zero, _+_, _<_, _≤_}
+use Prim.Native.Nat.{ℕ, _+_}
 use native.Mathlib.Omega.{arith}
-use lib.ListN.{length, getD, length-append, List·getD-append}
-use Rattle.endian.specs.Places.{word16}
-use Rattle.wire.specs.Frame.{frameOf, Framed, Bad, version, over, Next, bad, whole, nextFrame}
+use lib.ListN.{length, length-append, List·getD-append}
+use Rattle.wire.specs.Frame.{frameOf, Framed, Bad, version, over, bad, whole, nextFrame}
 use Rattle.wire.proofs.FrameLaws.{next-of-means, means-of-next, length-framed}
 
 framed-append : (l b r m : List ℕ) → Framed l b r → Framed (l ++ m) b (r ++ m)

@@ -1,11 +1,11 @@
 -- Every list of bytes is in one way, and in one way only, frames and then an end, a cut or an 11; and a stream may be read in pieces.
 -- Assumes nothing.
-use mathlib.Core.Path.{_≡_, _∙_, refl, sym, ap}
-use mathlib.Core.List.{List, [], _∷_, _++_, append-assoc}
-use Prim.Native.Nat.{ℕ, zero, suc, _+_, _<_, _≤_}
+use mathlib.Core.Path.{_≡_, _∙_, refl, sym}
+use mathlib.Core.List.{List, [], _++_, append-assoc}
+use Prim.Native.Nat.{ℕ, zero, suc, _<_, _≤_}
 use native.Mathlib.Omega.{arith}
 use lib.ListN.{length, length-append}
-use Rattle.wire.specs.Frame.{frameOf, Framed, Bad, Cut, Next, nothing, cut, bad, whole, nextFrame, Means}
+use Rattle.wire.specs.Frame.{frameOf, Next, nothing, cut, bad, whole, nextFrame, Means}
 use Rattle.wire.specs.Stream.{Stream, ended, broken, refused, framed, bytesOf, WellFormed, onNext, streamBy, streamOf, continued}
 use Rattle.wire.proofs.FrameLaws.{nil-of-length, length-framed, length-bad, next-of-means, means-of-next, means-next}
 use Rattle.wire.proofs.MoreLaws.{bad-append}

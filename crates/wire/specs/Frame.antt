@@ -3,7 +3,7 @@
 use mathlib.Core.Path.{_≡_}
 use mathlib.Core.Bool.{cond, not}
 use mathlib.Core.List.{List, [], _∷_, _++_}
-use Prim.Native.Nat.{ℕ, zero, _+_, _<_, _≤_}
+use Prim.Native.Nat.{ℕ, zero, _+_, _-_, _<_, _≤_}
 use lib.Dec.{ltb, eqb}
 use lib.ListN.{length, getD, take, drop}
 use Rattle.endian.specs.Bytes.{bytes16}
@@ -17,6 +17,15 @@ frameOf b = 1 ∷ (bytes16 (length b) ++ b)
 pub record Framed (l b r : List ℕ) : Type 0 where
   pub bytes : l ≡ frameOf b ++ r
   pub short : length b ≤ 160
+
+-- the same by the place e at which the frame ends: the body is the part from byte 3 to e, as `&msg[3..e]` is
+abbrev pub bodyTo : ℕ → List ℕ → List ℕ
+bodyTo e l = take (e - 3) (drop 3 l)
+
+pub record EndsAt (e : ℕ) (l : List ℕ) : Type 0 where
+  pub start : 3 ≤ e
+  pub within : e ≤ length l
+  pub front : Framed l (bodyTo e l) (drop e l)
 
 -- refusal 11: the version is not 1, which the first byte tells, or the length is over 160, which the first three tell
 pub data Bad (l : List ℕ) : Type 0 where

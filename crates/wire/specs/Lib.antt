@@ -5,3 +5,5 @@ pub mod Frame
 pub mod Stream
 pub mod Answers
 pub mod Writing
+pub mod Meaning
+pub mod Trials

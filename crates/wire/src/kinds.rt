@@ -4,74 +4,20 @@ ghost use Prim.Native.Nat.{_<_};
 ghost use Rattle.wire.specs.Kinds.{entriesIn, entriesOf};
 ghost use Rattle.wire.specs.Answers.{countOf};
 
-pub struct Shape {
-    pub base: usize,
-    pub step: usize,
-    pub least: usize,
-    pub most: usize,
-}
+// base, step, least, most
+pub struct Shape(pub usize, pub usize, pub usize, pub usize);
 
 const KINDS: [Shape; 10] = [
-    Shape {
-        base: 5,
-        step: 4,
-        least: 0,
-        most: 38,
-    },
-    Shape {
-        base: 2,
-        step: 1,
-        least: 0,
-        most: 0,
-    },
-    Shape {
-        base: 10,
-        step: 1,
-        least: 0,
-        most: 0,
-    },
-    Shape {
-        base: 6,
-        step: 1,
-        least: 0,
-        most: 0,
-    },
-    Shape {
-        base: 5,
-        step: 1,
-        least: 0,
-        most: 0,
-    },
-    Shape {
-        base: 5,
-        step: 1,
-        least: 0,
-        most: 0,
-    },
-    Shape {
-        base: 5,
-        step: 1,
-        least: 0,
-        most: 0,
-    },
-    Shape {
-        base: 1,
-        step: 1,
-        least: 0,
-        most: 0,
-    },
-    Shape {
-        base: 1,
-        step: 4,
-        least: 0,
-        most: 39,
-    },
-    Shape {
-        base: 1,
-        step: 1,
-        least: 0,
-        most: 0,
-    },
+    Shape(5, 4, 0, 38), // 0 open: first number, floors
+    Shape(2, 1, 0, 0), // 1 begin: site list
+    Shape(10, 1, 0, 0), // 2 ticket: number, site, ticket
+    Shape(6, 1, 0, 0), // 3 prepared: number, site
+    Shape(5, 1, 0, 0), // 4 abort: number
+    Shape(5, 1, 0, 0), // 5 decide: number
+    Shape(5, 1, 0, 0), // 6 forget: number
+    Shape(1, 1, 0, 0), // 7 sweep
+    Shape(1, 4, 0, 39), // 8 propose: numbers
+    Shape(1, 1, 0, 0), // 9 order
 ];
 
 // How many entries the list of a body has.
@@ -82,13 +28,13 @@ pub enum Count {
 
 // The entries of a body of this shape that is `len` bytes long, or that no such body is.
 fn entries_in(row: Shape, len: usize) -> Count
-    requires { ⌜ 0 < row .step ⌝ }
+    requires { ⌜ 0 < row .1 ⌝ }
     ensures { λ r. ⌜ r ≡ countOf (entriesIn row len) ⌝ }
 {
-    let base = row.base;
-    let step = row.step;
-    let least = row.least;
-    let most = row.most;
+    let base = row.0;
+    let step = row.1;
+    let least = row.2;
+    let most = row.3;
     if len < base {
         return Count::Wrong;
     }

@@ -1,5 +1,4 @@
 -- `wire::kinds::entries` meets its contract: the code's table is the definition's, row by row. Assumes nothing.
-use mathlib.Core.Path.{_∙_, ap}
 use borrow.Author.Needs.{needs}
 use borrow.Author.Tests.{lt-ltb, le-ltb}
 use Rattle.wire.specs.Kinds.{entriesOf}

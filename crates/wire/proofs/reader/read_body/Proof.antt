@@ -5,7 +5,6 @@ use Prim.Native.Nat.{ℕ}
 use lib.ListN.{length, getD}
 use denote.Ref.{now}
 use Rattle.wire.specs.declared.kinds.Count.{Count}
-use Rattle.wire.specs.declared.reader.BodyAnswer.{BodyAnswer}
 use Rattle.wire.specs.Kinds.{entriesOf}
 use Rattle.wire.specs.Answers.{countOf}
 use Rattle.wire.proofs.AnswerLaws.{answer-of-wrong, answer-of-count}

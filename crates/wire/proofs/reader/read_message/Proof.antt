@@ -1,15 +1,13 @@
 -- `wire::reader::read_message` meets its contract: the part from byte 3 to the end that the frame reader found is the frame's body.
 -- Assumes nothing.
-use mathlib.Core.Path.{_≡_, _∙_, sym, ap}
+use mathlib.Core.Path.{_≡_, _∙_, sym}
 use mathlib.Core.List.{List}
-use Prim.Native.Nat.{ℕ, _-_, _≤_}
-use lib.ListN.{length, take, drop}
+use Prim.Native.Nat.{ℕ}
 use denote.Ref.{now}
-use Rattle.wire.specs.declared.reader.FrameAnswer.{FrameAnswer}
 use Rattle.wire.specs.declared.reader.BodyAnswer.{BodyAnswer}
 use Rattle.wire.specs.Body.{messageOf}
-use Rattle.wire.specs.Frame.{nextFrame}
-use Rattle.wire.specs.Answers.{bodyAnswer, frameAnswer, withEnd, readAnswer}
+use Rattle.wire.specs.Frame.{bodyTo, EndsAt, nextFrame}
+use Rattle.wire.specs.Answers.{bodyAnswer, withEnd, readAnswer}
 use Rattle.wire.proofs.FrameLaws.{means-next}
 use Rattle.wire.proofs.AnswerLaws.{part-of-answer, read-of-not-yet, read-of-bad}
 use Rattle.wire.proofs.reader.read_message.Statement.{statement}
@@ -29,17 +27,18 @@ module _ (c : tie.After-end) where
   abbrev stop : ℕ
   stop = c .end .given .0 .0
 
-  part : (3 ≤ stop) × (stop ≤ length bytesAt) × (readAnswer (nextFrame bytesAt) ≡ withEnd (bodyAnswer (messageOf (take (stop - 3) (drop 3 bytesAt)))) stop)
-  part = part-of-answer bytesAt stop (nextFrame bytesAt) (means-next bytesAt) (sym (c .before .before .read-frame .ensures) ∙ c .end .given .1)
+  part : EndsAt stop bytesAt × (readAnswer (nextFrame bytesAt) ≡ withEnd (bodyAnswer (messageOf (bodyTo stop bytesAt))) stop)
+  part =
+      part-of-answer bytesAt stop (nextFrame bytesAt) (means-next bytesAt) (sym (c .before .before .read-frame .ensures) ∙ c .end .given .1)
 
 sub-read-body : tie.Need-sub-read-body
-sub-read-body c = part (c .before) .0
+sub-read-body c = part (c .before) .0 .start
 
 part-read-body-start : tie.Need-part-read-body-start
-part-read-body-start c = part (c .before) .0
+part-read-body-start c = part (c .before) .0 .start
 
 part-read-body-end : tie.Need-part-read-body-end
-part-read-body-end c = part (c .before) .1
+part-read-body-end c = part (c .before) .0 .within
 
 read-body-requires : tie.Need-read-body-requires
 read-body-requires c κs = tt
@@ -58,7 +57,7 @@ enum-told-3 c = c .match .keys3
 
 -- the same, once the body has been read as a
 answer : (c : tie.After-read-body) (a : BodyAnswer) → c .read-body .result ≡ a → withEnd a (stop (c .before .before .before)) ≡ readAnswer (nextFrame (bytesAt (c .before .before .before)))
-answer c a h = let e = c .before .before .before in rw (part e .2, ← c .read-body .ensures, h)
+answer c a h = let e = c .before .before .before in rw (part e .1, ← c .read-body .ensures, h)
 
 returns : tie.Need-returns
 returns c = let e = c .before .before .before in answer e (BodyAnswer.Request (c .before .request .given .0 .0)) (c .before .request .given .1)

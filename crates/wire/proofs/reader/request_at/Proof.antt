@@ -1,6 +1,5 @@
 -- `wire::reader::request_at` meets its contract: each arm is a line of the table, and `_` lies past its end. Assumes nothing.
 use mathlib.Core.Path.{_≡_, sym}
-use mathlib.Core.List.{List, [], _∷_}
 use Prim.Native.Nat.{ℕ, suc, _≤_, zero-le}
 use native.Mathlib.Omega.{arith}
 use lib.ListN.{List·getD-eq-default}
