@@ -121,3 +121,16 @@ module _ (l : List ℕ) where
 
   pub means-of-next : (x : Next) → nextFrame l ≡ x → Means l x
   means-of-next x e = rw e at (means-next l)
+
+-- bytes that are not yet whole are fewer than the longest message has, so a buffer of 163 never waits for more while it is full
+pub length-cut : (l : List ℕ) → Cut l → length l < 163
+length-cut l c = go (ltb (length l) 163) (eqb (getD l 0 0) 1) (ltb 160 (word16 l 1)) refl refl refl
+  where
+    go : (b v o : Bool) → ltb (length l) 163 ≡ b → eqb (getD l 0 0) 1 ≡ v → ltb 160 (word16 l 1) ≡ o → length l < 163
+    go true v o e ev eo = ltb-true (length l) 163 e
+    go false false o e ev eo = absurd (c .not-bad (version (c .begun) (eqb-false _ _ ev)))
+    go false true true e ev eo = let h = ltb-false (length l) 163 e in absurd (c .not-bad (over (omega arith) (ltb-true _ _ eo)))
+    go false true false e ev eo =
+        let h = ltb-false (length l) 163 e in
+        let s = ltb-false 160 (word16 l 1) eo in
+        absurd (c .not-whole _ _ (framed-of-length l (eqb-true _ _ ev) s (omega arith)))

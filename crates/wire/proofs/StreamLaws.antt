@@ -6,7 +6,7 @@ use Prim.Native.Nat.{ℕ, zero, suc, _<_, _≤_}
 use native.Mathlib.Omega.{arith}
 use lib.ListN.{length, length-append}
 use Rattle.wire.specs.Frame.{frameOf, Next, nothing, cut, bad, whole, nextFrame, Means}
-use Rattle.wire.specs.Stream.{Stream, ended, broken, refused, framed, bytesOf, WellFormed, onNext, streamBy, streamOf, continued}
+use Rattle.wire.specs.Stream.{Stream, ended, cutOff, refused, framed, bytesOf, WellFormed, onNext, streamBy, streamOf, continued}
 use Rattle.wire.proofs.FrameLaws.{nil-of-length, length-framed, length-bad, next-of-means, means-of-next, means-next}
 use Rattle.wire.proofs.MoreLaws.{bad-append}
 
@@ -45,8 +45,8 @@ stream-of-bytes-by : (s : Stream) (n : ℕ) → WellFormed s → length (bytesOf
 unfolding streamBy
 stream-of-bytes-by ended zero w h = refl
 stream-of-bytes-by ended (suc n) w h = rw (next-of-means [] nothing refl)
-stream-of-bytes-by (broken l) zero w h = absurd (omega (arith, w .begun))
-stream-of-bytes-by (broken l) (suc n) w h = rw (next-of-means l cut w)
+stream-of-bytes-by (cutOff l) zero w h = absurd (omega (arith, w .begun))
+stream-of-bytes-by (cutOff l) (suc n) w h = rw (next-of-means l cut w)
 stream-of-bytes-by (refused l) zero w h = absurd (omega (arith, length-bad l w))
 stream-of-bytes-by (refused l) (suc n) w h = rw (next-of-means l bad w)
 stream-of-bytes-by (framed b s) zero w h = absurd (omega arith)
@@ -62,8 +62,8 @@ module _ (l : List ℕ) where
   pub stream-of-nothing : nextFrame l ≡ nothing → streamOf l ≡ ended
   stream-of-nothing e = stream-is l ended tt (sym (means-of-next l nothing e))
 
-  pub stream-of-cut : nextFrame l ≡ cut → streamOf l ≡ broken l
-  stream-of-cut e = stream-is l (broken l) (means-of-next l cut e) refl
+  pub stream-of-cut : nextFrame l ≡ cut → streamOf l ≡ cutOff l
+  stream-of-cut e = stream-is l (cutOff l) (means-of-next l cut e) refl
 
   pub stream-of-bad : nextFrame l ≡ bad → streamOf l ≡ refused l
   stream-of-bad e = stream-is l (refused l) (means-of-next l bad e) refl
@@ -76,13 +76,13 @@ module _ (l : List ℕ) where
 -- more bytes behind
 bytes-continued : (s : Stream) (m : List ℕ) → bytesOf (continued s m) ≡ bytesOf s ++ m
 bytes-continued ended m = bytes-of-stream m
-bytes-continued (broken l) m = bytes-of-stream (l ++ m)
+bytes-continued (cutOff l) m = bytes-of-stream (l ++ m)
 bytes-continued (refused l) m = refl
 bytes-continued (framed b s) m = rw (bytes-continued s m) (sym (append-assoc (frameOf b) (bytesOf s) m))
 
 well-formed-continued : (s : Stream) (m : List ℕ) → WellFormed s → WellFormed (continued s m)
 well-formed-continued ended m w = well-formed-stream m
-well-formed-continued (broken l) m w = well-formed-stream (l ++ m)
+well-formed-continued (cutOff l) m w = well-formed-stream (l ++ m)
 well-formed-continued (refused l) m w = bad-append l m w
 well-formed-continued (framed b s) m w = (w .0, well-formed-continued s m (w .1))
 

@@ -27,7 +27,9 @@ pub record EndsAt (e : ℕ) (l : List ℕ) : Type 0 where
   pub within : e ≤ length l
   pub front : Framed l (bodyTo e l) (drop e l)
 
--- refusal 11: the version is not 1, which the first byte tells, or the length is over 160, which the first three tell
+-- refusal 11: the version is not 1, which the first byte tells, or the length is over 160, which the first three tell. The length is
+-- looked at as a whole: a high byte that is not 0 waits for the low one. At the end of input all that is left over is 11, so this settles
+-- when the line is written and not which.
 pub data Bad (l : List ℕ) : Type 0 where
   version : zero < length l → (getD l 0 0 ≡ 1 → ⊥) → Bad l
   over : 3 ≤ length l → 160 < word16 l 1 → Bad l

@@ -9,7 +9,7 @@ pub data Stream : Type 0 where
   -- no byte is left
   ended : Stream
   -- what is left is not a whole frame, and may still become one
-  broken : List ℕ → Stream
+  cutOff : List ℕ → Stream
   -- what is left begins with an 11; nothing of it is read
   refused : List ℕ → Stream
   -- a frame's body, and the rest
@@ -17,20 +17,20 @@ pub data Stream : Type 0 where
 
 abbrev pub bytesOf : Stream → List ℕ
 bytesOf ended = []
-bytesOf (broken l) = l
+bytesOf (cutOff l) = l
 bytesOf (refused l) = l
 bytesOf (framed b s) = frameOf b ++ bytesOf s
 
 abbrev pub WellFormed : Stream → Type 0
 WellFormed ended = Unit {0}
-WellFormed (broken l) = Cut l
+WellFormed (cutOff l) = Cut l
 WellFormed (refused l) = Bad l
 WellFormed (framed b s) = (length b ≤ 160) × WellFormed s
 
 -- the stream of l, by what stands in front of it; f reads on behind a frame
 abbrev pub onNext : List ℕ → (List ℕ → Stream) → Next → Stream
 onNext l f nothing = ended
-onNext l f cut = broken l
+onNext l f cut = cutOff l
 onNext l f bad = refused l
 onNext l f (whole b r) = framed b (f r)
 
@@ -45,6 +45,6 @@ streamOf l = streamBy (length l) l
 -- when m comes behind: an 11 stays, what was cut is read again with m, and the frames before are as they were
 abbrev pub continued : Stream → List ℕ → Stream
 continued ended m = streamOf m
-continued (broken l) m = streamOf (l ++ m)
+continued (cutOff l) m = streamOf (l ++ m)
 continued (refused l) m = refused (l ++ m)
 continued (framed b s) m = framed b (continued s m)

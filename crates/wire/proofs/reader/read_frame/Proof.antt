@@ -1,15 +1,18 @@
 -- `wire::reader::read_frame` meets its contract: each return rewrites by the tests that led there, which are those of `nextFrame` in the
 -- same sequence. Assumes nothing.
+use mathlib.Core.Path.{_≡_}
+use mathlib.Core.Bool.{cond}
 use mathlib.Core.List.{List}
 use Prim.Native.Nat.{ℕ, _+_}
 use native.Mathlib.Omega.{arith}
-use lib.ListN.{length, drop, length-drop}
+use lib.Dec.{ltb}
+use lib.ListN.{length, take, drop, length-drop}
 use lib.Seq.{length-take-le}
 use borrow.Author.Needs.{needs}
 use borrow.Author.Tests.{lt-ltb, le-ltb, eq-eqb, ne-eqb}
 use denote.Ref.{now}
 use Rattle.endian.specs.Places.{word16}
-use Rattle.wire.specs.Frame.{nextFrame}
+use Rattle.wire.specs.Frame.{cut, bad, whole, nextFrame}
 use Rattle.wire.proofs.reader.read_frame.Statement.{statement}
 use Rattle.wire.proofs.reader.read_frame.Tie as tie
 
@@ -34,7 +37,7 @@ get16-requires c κs = tt
 cast-len : tie.Need-cast-len
 cast-len c = search needs
 
--- past the header: the bytes at hand and the length that they say
+-- past the header: the bytes at hand, the length that they say, and what is still to be tested
 module _ (c : tie.After-get16) where
   abbrev bytesAt : List ℕ
   bytesAt = now (c .before .before .before .before .before .before .args .msg)
@@ -42,38 +45,42 @@ module _ (c : tie.After-get16) where
   abbrev size : ℕ
   size = word16 bytesAt 1
 
+  past : nextFrame bytesAt ≡
+      cond (ltb 160 size) bad (cond (ltb (length bytesAt) (3 + size)) cut (whole (take size (drop 3 bytesAt)) (drop size (drop 3 bytesAt))))
+  unfolding nextFrame
+  past =
+      let v = c .before .before in
+      simp (ne-eqb _ _ (v .before .before .if1 .left), eq-eqb _ _ (v .if2 .left), le-ltb _ _ (c .before .if3 .left))
+
 returns-4 : tie.Need-returns-4
-unfolding nextFrame
 returns-4 c =
     let g = c .before in
-    let v = g .before .before in
-    let long = lt-ltb 160 (size g) (omega (arith, g .get16 .ensures)) in
-    simp (ne-eqb _ _ (v .before .before .if1 .left), eq-eqb _ _ (v .if2 .left), le-ltb _ _ (g .before .if3 .left), long)
+    rw (past g, lt-ltb 160 (size g) (omega (arith, g .get16 .ensures)))
 
 add-if5 : tie.Need-add-if5
 add-if5 c = search needs
 
+-- the length is not over 160
+module _ (c : tie.Else4) where
+  fine : nextFrame (bytesAt (c .before)) ≡
+      cond (ltb (length (bytesAt (c .before))) (3 + size (c .before))) cut
+      (whole (take (size (c .before)) (drop 3 (bytesAt (c .before)))) (drop (size (c .before)) (drop 3 (bytesAt (c .before)))))
+  fine = let g = c .before in rw (past g, le-ltb 160 (size g) (omega (arith, g .get16 .ensures)))
+
 returns-5 : tie.Need-returns-5
-unfolding nextFrame
 returns-5 c =
     let g = c .before .before in
-    let v = g .before .before in
-    let fine = le-ltb 160 (size g) (omega (arith, g .get16 .ensures)) in
-    let short = lt-ltb (length (bytesAt g)) (3 + size g) (omega (arith, g .get16 .ensures)) in
-    simp (ne-eqb _ _ (v .before .before .if1 .left), eq-eqb _ _ (v .if2 .left), le-ltb _ _ (g .before .if3 .left), fine, short)
+    rw (fine (c .before), lt-ltb (length (bytesAt g)) (3 + size g) (omega (arith, g .get16 .ensures)))
 
 add-t8 : tie.Need-add-t8
 add-t8 c = search needs
 
 returns-6 : tie.Need-returns-6
-unfolding nextFrame
 returns-6 c =
     let g = c .before .before in
-    let v = g .before .before in
-    let fine = le-ltb 160 (size g) (omega (arith, g .get16 .ensures)) in
-    let there = le-ltb (length (bytesAt g)) (3 + size g) (omega (arith, g .get16 .ensures)) in
-    let body = length-take-le (size g) (drop 3 (bytesAt g)) (simp length-drop (omega (arith, g .get16 .ensures))) in
-    simp (ne-eqb _ _ (v .before .before .if1 .left), eq-eqb _ _ (v .if2 .left), le-ltb _ _ (g .before .if3 .left), fine, there, body, g .get16 .ensures)
+    let e = g .get16 .ensures in
+    let body = length-take-le (size g) (drop 3 (bytesAt g)) (simp length-drop (omega (arith, e))) in
+    rw (fine (c .before), le-ltb (length (bytesAt g)) (3 + size g) (omega (arith, e)), body, e)
 
 pub read-frame-spec : {M : Type 1} → statement M
 read-frame-spec =
