@@ -97,7 +97,7 @@ length-bad l (version h e) = h
 length-bad l (over h g) = omega arith
 
 module _ (l : List ℕ) where
-  one-meaning : (x y : Next) → Means l x → Means l y → x ≡ y
+  pub one-meaning : (x y : Next) → Means l x → Means l y → x ≡ y
   one-meaning nothing nothing p q = refl
   one-meaning nothing cut p q = absurd (omega (arith, ap length p, q .begun))
   one-meaning nothing bad p q = absurd (omega (arith, ap length p, length-bad l q))

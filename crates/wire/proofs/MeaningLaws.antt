@@ -27,7 +27,7 @@ use Rattle.wire.proofs.BodyLaws.{message-of-body, body-of-message, no-b
 use Rattle.wire.proofs.FrameLaws.{ends-framed, means-next, next-of-means}
 
 -- two messages in range with one body are one
-one-message : (m p : Message) → InRange m → InRange p → bodyOf m ≡ bodyOf p → m ≡ p
+pub one-message : (m p : Message) → InRange m → InRange p → bodyOf m ≡ bodyOf p → m ≡ p
 one-message m p h g e = Option·some-injective m p (sym (message-of-body m h) ∙ ap messageOf e ∙ message-of-body p g)
 
 -- bodies

@@ -4,8 +4,8 @@ use mathlib.Core.Path.{_≡_, _∙_, refl, sym}
 use mathlib.Core.List.{List, [], _++_, append-assoc}
 use Prim.Native.Nat.{ℕ, zero, suc, _<_, _≤_}
 use native.Mathlib.Omega.{arith}
-use lib.ListN.{length, length-append}
-use Rattle.wire.specs.Frame.{frameOf, Next, nothing, cut, bad, whole, nextFrame, Means}
+use lib.ListN.{length, drop, length-append}
+use Rattle.wire.specs.Frame.{frameOf, bodyTo, EndsAt, Next, nothing, cut, bad, whole, nextFrame, Means}
 use Rattle.wire.specs.Stream.{Stream, ended, cutOff, refused, framed, bytesOf, WellFormed, onNext, streamBy, streamOf, continued}
 use Rattle.wire.proofs.FrameLaws.{nil-of-length, length-framed, length-bad, next-of-means, means-of-next, means-next}
 use Rattle.wire.proofs.MoreLaws.{bad-append}
@@ -57,6 +57,9 @@ stream-of-bytes-by (framed b s) (suc n) w h =
 pub stream-is : (l : List ℕ) (s : Stream) → WellFormed s → bytesOf s ≡ l → streamOf l ≡ s
 stream-is l s w e = rw (← e) (stream-of-bytes-by s (length (bytesOf s)) w (omega arith))
 
+pub one-stream : (s t : Stream) → WellFormed s → WellFormed t → bytesOf s ≡ bytesOf t → s ≡ t
+one-stream s t w v e = sym (stream-is (bytesOf s) s w refl) ∙ stream-is (bytesOf s) t v (sym e)
+
 -- how a stream goes on, by what stands in front: the laws to go by from the front
 module _ (l : List ℕ) where
   pub stream-of-nothing : nextFrame l ≡ nothing → streamOf l ≡ ended
@@ -72,6 +75,10 @@ module _ (l : List ℕ) where
   stream-of-whole b r e =
       let f = means-of-next l (whole b r) e in
       stream-is l (framed b (streamOf r)) (f .short, well-formed-stream r) (rw (bytes-of-stream r) (sym (f .bytes)))
+
+  -- the same by the place where the reader says that the message ends
+  pub stream-of-end : (e : ℕ) → EndsAt e l → streamOf l ≡ framed (bodyTo e l) (streamOf (drop e l))
+  stream-of-end e f = stream-of-whole (bodyTo e l) (drop e l) (next-of-means l (whole (bodyTo e l) (drop e l)) (f .front))
 
 -- more bytes behind
 bytes-continued : (s : Stream) (m : List ℕ) → bytesOf (continued s m) ≡ bytesOf s ++ m

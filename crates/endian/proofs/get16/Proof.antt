@@ -1,5 +1,6 @@
 -- `endian::get16` meets its contract: past the end there are only zeros. Assumes nothing.
 use mathlib.Core.Path.{sym}
+use native.Mathlib.Omega.{arith}
 use borrow.Author.Needs.{needs}
 use denote.Ref.{now}
 use Rattle.endian.proofs.PlacesLaws.{word16-past}
@@ -7,16 +8,16 @@ use Rattle.endian.proofs.get16.Statement.{statement}
 use Rattle.endian.proofs.get16.Tie as tie
 
 shared-slice-read-join16 : tie.Need-shared-slice-read-join16
-shared-slice-read-join16 c = search needs
+shared-slice-read-join16 c = omega arith
 
 add-get8 : tie.Need-add-get8
-add-get8 c = search needs
+add-get8 c = omega arith
 
 get8-requires : tie.Need-get8-requires
-get8-requires c κs = search needs
+get8-requires c κs = tt
 
 join16-requires : tie.Need-join16-requires
-join16-requires c κs = search needs
+join16-requires c κs = tt
 
 returns : tie.Need-returns
 returns c = search needs

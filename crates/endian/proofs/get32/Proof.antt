@@ -1,5 +1,6 @@
 -- `endian::get32` meets its contract: past the end there are only zeros. Assumes nothing.
 use mathlib.Core.Path.{sym}
+use native.Mathlib.Omega.{arith}
 use borrow.Author.Needs.{needs}
 use denote.Ref.{now}
 use Rattle.endian.proofs.PlacesLaws.{word32-past}
@@ -7,28 +8,28 @@ use Rattle.endian.proofs.get32.Statement.{statement}
 use Rattle.endian.proofs.get32.Tie as tie
 
 shared-slice-read-join32 : tie.Need-shared-slice-read-join32
-shared-slice-read-join32 c = search needs
+shared-slice-read-join32 c = omega arith
 
 add-get8 : tie.Need-add-get8
-add-get8 c = search needs
+add-get8 c = omega arith
 
 get8-requires : tie.Need-get8-requires
-get8-requires c κs = search needs
+get8-requires c κs = tt
 
 add-get8-2 : tie.Need-add-get8-2
-add-get8-2 c = search needs
+add-get8-2 c = omega arith
 
 get8-requires-2 : tie.Need-get8-requires-2
-get8-requires-2 c κs = search needs
+get8-requires-2 c κs = tt
 
 add-get8-3 : tie.Need-add-get8-3
-add-get8-3 c = search needs
+add-get8-3 c = omega arith
 
 get8-requires-3 : tie.Need-get8-requires-3
-get8-requires-3 c κs = search needs
+get8-requires-3 c κs = tt
 
 join32-requires : tie.Need-join32-requires
-join32-requires c κs = search needs
+join32-requires c κs = tt
 
 returns : tie.Need-returns
 returns c = search needs

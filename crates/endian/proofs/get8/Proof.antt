@@ -1,5 +1,6 @@
 -- `endian::get8` meets its contract: past the end there are only zeros. Assumes nothing.
 use mathlib.Core.Path.{sym}
+use native.Mathlib.Omega.{arith}
 use borrow.Author.Needs.{needs}
 use denote.Ref.{now}
 use lib.ListN.{List·getD-eq-default}
@@ -7,7 +8,7 @@ use Rattle.endian.proofs.get8.Statement.{statement}
 use Rattle.endian.proofs.get8.Tie as tie
 
 shared-slice-read-result : tie.Need-shared-slice-read-result
-shared-slice-read-result c = search needs
+shared-slice-read-result c = omega arith
 
 returns : tie.Need-returns
 returns c = search needs

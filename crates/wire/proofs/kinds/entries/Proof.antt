@@ -1,6 +1,6 @@
 -- `wire::kinds::entries` meets its contract: the code's table is the definition's, row by row. Assumes nothing.
-use borrow.Author.Needs.{needs}
 use borrow.Author.Tests.{lt-ltb, le-ltb}
+use native.Mathlib.Omega.{arith}
 use Rattle.wire.specs.Kinds.{entriesOf}
 use Rattle.wire.proofs.KindsLaws.{step-pos}
 use Rattle.wire.proofs.kinds.entries.Statement.{statement}
@@ -11,10 +11,10 @@ unfolding entriesOf
 returns c = simp (le-ltb _ _ (c .if1 .taken))
 
 mul-row : tie.Need-mul-row
-mul-row c = search needs
+mul-row c = omega arith
 
 array-copy-out-row : tie.Need-array-copy-out-row
-array-copy-out-row c = search needs
+array-copy-out-row c = omega arith
 
 entries-in-requires : tie.Need-entries-in-requires
 entries-in-requires c κs = step-pos _ (c .before .if1 .left)

@@ -8,7 +8,6 @@ use native.Mathlib.Omega.{arith}
 use lib.Dec.{ltb}
 use lib.ListN.{length, take, drop, length-drop}
 use lib.Seq.{length-take-le}
-use borrow.Author.Needs.{needs}
 use borrow.Author.Tests.{lt-ltb, le-ltb, eq-eqb, ne-eqb}
 use denote.Ref.{now}
 use Rattle.endian.specs.Places.{word16}
@@ -21,7 +20,7 @@ unfolding nextFrame
 returns c = simp (eq-eqb _ _ (c .if1 .taken))
 
 shared-slice-read-if2 : tie.Need-shared-slice-read-if2
-shared-slice-read-if2 c = search needs
+shared-slice-read-if2 c = omega arith
 
 returns-2 : tie.Need-returns-2
 unfolding nextFrame
@@ -35,7 +34,7 @@ get16-requires : tie.Need-get16-requires
 get16-requires c κs = tt
 
 cast-len : tie.Need-cast-len
-cast-len c = search needs
+cast-len c = omega arith
 
 -- past the header: the bytes at hand, the length that they say, and what is still to be tested
 module _ (c : tie.After-get16) where
@@ -58,7 +57,7 @@ returns-4 c =
     rw (past g, lt-ltb 160 (size g) (omega (arith, g .get16 .ensures)))
 
 add-if5 : tie.Need-add-if5
-add-if5 c = search needs
+add-if5 c = omega arith
 
 -- the length is not over 160
 module _ (c : tie.Else4) where
@@ -73,7 +72,7 @@ returns-5 c =
     rw (fine (c .before), lt-ltb (length (bytesAt g)) (3 + size g) (omega (arith, g .get16 .ensures)))
 
 add-t8 : tie.Need-add-t8
-add-t8 c = search needs
+add-t8 c = omega arith
 
 returns-6 : tie.Need-returns-6
 returns-6 c =

@@ -54,7 +54,7 @@ returns-2 c =
     wrong (bodyAt e) (outAt e) (placeAt e) (e .before .before .if1 .left) (counted e Count.Wrong (c .enum-told2 .given .1))
 
 add-whole : tie.Need-add-whole
-add-whole c = search needs
+add-whole c = omega arith
 
 returns-3 : tie.Need-returns-3
 returns-3 c =
@@ -63,7 +63,7 @@ returns-3 c =
     no-room (bodyAt e) (outAt e) (placeAt e) (e .before .before .if1 .left) (t .0 .0) (counted e (Count.Entries (t .0 .0)) (t .1)) (omega arith)
 
 sub-if3 : tie.Need-sub-if3
-sub-if3 c = search needs
+sub-if3 c = omega arith
 
 returns-4 : tie.Need-returns-4
 returns-4 c =
@@ -72,10 +72,10 @@ returns-4 c =
     no-room (bodyAt e) (outAt e) (placeAt e) (e .before .before .if1 .left) (t .0 .0) (counted e (Count.Entries (t .0 .0)) (t .1)) (omega arith)
 
 cast-t12 : tie.Need-cast-t12
-cast-t12 c = search needs
+cast-t12 c = omega arith
 
 cast-t13 : tie.Need-cast-t13
-cast-t13 c = search needs
+cast-t13 c = omega arith
 
 slice-aggregate-put : tie.Need-slice-aggregate-put
 slice-aggregate-put c = search needs
@@ -84,7 +84,7 @@ put-requires : tie.Need-put-requires
 put-requires c κs = tt
 
 add-put : tie.Need-add-put
-add-put c = search needs
+add-put c = omega arith
 
 put-requires-2 : tie.Need-put-requires-2
 put-requires-2 c κs = tt
