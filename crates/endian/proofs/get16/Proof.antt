@@ -1,7 +1,6 @@
 -- `endian::get16` meets its contract: past the end there are only zeros. Assumes nothing.
-use mathlib.Core.Path.{sym}
+use mathlib.Core.Path.{_∙_, sym}
 use native.Mathlib.Omega.{arith}
-use borrow.Author.Needs.{needs}
 use denote.Ref.{now}
 use Rattle.endian.proofs.PlacesLaws.{word16-past}
 use Rattle.endian.proofs.get16.Statement.{statement}
@@ -20,7 +19,7 @@ join16-requires : tie.Need-join16-requires
 join16-requires c κs = tt
 
 returns : tie.Need-returns
-returns c = search needs
+returns c = c .join16 .ensures ∙ rw (c .before .get8 .ensures)
 
 returns-2 : tie.Need-returns-2
 returns-2 c =

@@ -1,7 +1,6 @@
 -- `endian::get32` meets its contract: past the end there are only zeros. Assumes nothing.
-use mathlib.Core.Path.{sym}
+use mathlib.Core.Path.{_∙_, sym}
 use native.Mathlib.Omega.{arith}
-use borrow.Author.Needs.{needs}
 use denote.Ref.{now}
 use Rattle.endian.proofs.PlacesLaws.{word32-past}
 use Rattle.endian.proofs.get32.Statement.{statement}
@@ -32,7 +31,11 @@ join32-requires : tie.Need-join32-requires
 join32-requires c κs = tt
 
 returns : tie.Need-returns
-returns c = search needs
+returns c =
+    let third = c .before in
+    let second = third .before in
+    let first = second .before in
+    c .join32 .ensures ∙ rw (first .get8 .ensures, second .get82 .ensures, third .get83 .ensures)
 
 returns-2 : tie.Need-returns-2
 returns-2 c =
