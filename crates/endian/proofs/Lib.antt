@@ -1,0 +1,5 @@
+pub mod BytesLaws
+pub mod BelowLaws
+pub mod PlacesLaws
+pub mod LaidLaws
+pub mod WordsLaws
