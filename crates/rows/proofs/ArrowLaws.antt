@@ -36,7 +36,7 @@ module _ (f : ℕ → ℕ → Bool) where
     site→anySite (x ∷ xs) (y ∷ ys) zero e = or-of-left (anySite f xs ys) e
     site→anySite (x ∷ xs) (y ∷ ys) (suc s) e = or-of-right (f x y) (site→anySite xs ys s e)
 
-beforeb-zero : (x : ℕ) → beforeb x 0 ≡ false
+pub beforeb-zero : (x : ℕ) → beforeb x 0 ≡ false
 beforeb-zero x = rw (le-ltb x 0 (omega arith)) (and-false (ltb 0 x))
 
 pub arrowb→arrow : (a b : Tickets) → arrowb a b ≡ true → Arrow a b

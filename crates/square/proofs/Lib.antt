@@ -1,0 +1,9 @@
+pub mod SlotLaws
+pub mod AnswerLaws
+pub mod SlottedLaws
+mod SiteLaws
+mod EdgeLaws
+mod PassedLaws
+mod ClosureLaws
+mod CycleLaws
+mod FoundLaws
