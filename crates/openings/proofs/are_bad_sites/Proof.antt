@@ -1,0 +1,18 @@
+-- `openings::are_bad_sites` meets its contract. Assumes nothing.
+use mathlib.Core.Path.{sym, _∙_}
+use borrow.Author.Needs.{needs}
+use Rattle.openings.proofs.BeginLaws.{bad-of-empty, bad-of-outside}
+use Rattle.openings.proofs.are_bad_sites.Statement.{statement}
+use Rattle.openings.proofs.are_bad_sites.Tie as tie
+
+returns : tie.Need-returns
+returns c = let a = c .before .args in sym (bad-of-empty (a .t) (a .x) (c .if1 .taken))
+
+goes-outside-requires : tie.Need-goes-outside-requires
+goes-outside-requires c κs = search needs
+
+returns-2 : tie.Need-returns-2
+returns-2 c = let a = c .before .before .args in c .goes-outside .ensures ∙ sym (bad-of-outside (a .t) (a .x) (c .before .if1 .left) (search needs))
+
+pub are-bad-sites-spec : {M : Type 1} → statement M
+are-bad-sites-spec = tie.close (tie.spec returns goes-outside-requires returns-2)

@@ -1,0 +1,173 @@
+// The calls that give out: open and begin. RULES, Calls.
+ghost use mathlib.Core.Path.{_≡_};
+ghost use Prim.Native.Nat.{_<_, _≤_, _+_};
+ghost use lib.ListN.{length, replicate};
+ghost use Rattle.sites.specs.Sites.{sitesOf};
+ghost use Rattle.method.specs.Records.{number, noPart, closed as closedTable, withRow, withLast};
+ghost use Rattle.method.specs.Conditions.{badOpening, badSites};
+ghost use Rattle.method.specs.Calls.Call.{openWith, begin as beginCall};
+ghost use Rattle.method.specs.Effects.{padded as paddedTickets, based as basedParts, opened as openedTable, newRow, answered, step};
+use method::Answer;
+use method::Answered;
+use method::Number;
+use method::Part;
+use method::Row;
+use method::Stage;
+use method::State;
+use method::Table;
+use method::Ticket;
+
+// The table to start from: it knows no site, and refuses all calls but open.
+pub fn closed() -> Table
+    ensures answer { λ r. ⌜ r ≡ closedTable ⌝ }
+{
+    let free = slots::free_row();
+    let high = [Ticket(0); 8];
+    let rows = [free; 32];
+    Table {
+        sites: 0,
+        last: Number(0),
+        high: high,
+        rows: rows,
+    }
+}
+
+// No floors, over 8 of them, or first number 0.
+fn is_bad_opening(first: Number, floors: &[u32]) -> bool
+    ensures answer { λ r. ⌜ r ≡ badOpening (first .0) (now (floors .entry)) ⌝ }
+{
+    if floors.len() == 0 {
+        return true;
+    }
+    if 8 < floors.len() {
+        return true;
+    }
+    first.0 == 0
+}
+
+// The floors, and zeros for the sites that the table lacks.
+fn padded(floors: &[u32]) -> [Ticket; 8]
+    requires { ⌜ length (now floors) ≤ 8 ⌝ }
+    ensures answer { λ r. ⌜ r ≡ paddedTickets 8 (now (floors .entry)) ⌝ }
+{
+    let mut high = [Ticket(0); 8];
+    let mut i: usize = 0;
+    while i < floors.len() {
+        let f = Ticket(floors[i]);
+        high[i] = f;
+        i += 1;
+    }
+    high
+}
+
+fn opened(first: Number, floors: &[u32]) -> Answered
+    requires { ⌜ (length (now floors) ≤ 8) × (0 < first .0) ⌝ }
+    ensures answer { λ r. ⌜ r ≡ answered (openedTable (first .0) (now (floors .entry))) Answer.Done ⌝ }
+{
+    let high = padded(floors);
+    let free = slots::free_row();
+    let rows = [free; 32];
+    let sites = floors.len() as u8;
+    let last = Number(first.0 - 1);
+    Answered {
+        table: Table {
+            sites: sites,
+            last: last,
+            high: high,
+            rows: rows,
+        },
+        answer: Answer::Done,
+    }
+}
+
+pub fn open_with(t: Table, first: Number, floors: &[u32]) -> Answered
+    ensures answer { λ r. ⌜ r ≡ step t (openWith (first .0) (now (floors .entry))) ⌝ }
+{
+    if t.sites != 0 {
+        return slots::refuse(t, 4);
+    }
+    if is_bad_opening(first, floors) {
+        return slots::refuse(t, 1);
+    }
+    opened(first, floors)
+}
+
+// An empty list of sites, or one with a site that the table lacks.
+fn are_bad_sites(t: Table, x: u8) -> bool
+    ensures answer { λ r. ⌜ r ≡ badSites t x ⌝ }
+{
+    if x == 0 {
+        return true;
+    }
+    sites::goes_outside(x, t.sites)
+}
+
+// Each listed site at the first stage, its base the highest committed ticket there.
+fn based(high: [Ticket; 8], x: u8) -> [Part; 8]
+    requires { ⌜ length high ≡ 8 ⌝ }
+    ensures answer { λ r. ⌜ r ≡ basedParts high (sitesOf x) (replicate 8 noPart) ⌝ }
+{
+    let none = Part {
+        stage: Stage::Begun,
+        base: Ticket(0),
+        ticket: Ticket(0),
+    };
+    let mut parts = [none; 8];
+    let mut left = x;
+    while left != 0 {
+        let s = u8::trailing_zeros(left) as usize;
+        let base = high[s];
+        let p = Part {
+            stage: Stage::Begun,
+            base: base,
+            ticket: Ticket(0),
+        };
+        parts[s] = p;
+        left = left & (left - 1);
+    }
+    parts
+}
+
+fn begun(t: Table, x: u8, slot: usize) -> Answered
+    requires { ⌜ (slot < 32) × (t .last .0 < 4294967295) ⌝ }
+    ensures answer { λ r. ⌜ r ≡ answered (withRow (withLast t (number (t .last .0 + 1))) slot (newRow t x)) (Answer.Begun (number (t .last .0 + 1))) ⌝ }
+{
+    let last = t.last;
+    let n = Number(last.0 + 1);
+    let high = t.high;
+    let parts = based(high, x);
+    let row = Row {
+        state: State::Active,
+        number: n,
+        sites: x,
+        last: Number(0),
+        parts: parts,
+    };
+    let mut u = t;
+    u.last = n;
+    u.rows[slot] = row;
+    Answered {
+        table: u,
+        answer: Answer::Begun(n),
+    }
+}
+
+pub fn begin(t: Table, x: u8) -> Answered
+    ensures answer { λ r. ⌜ r ≡ step t (beginCall x) ⌝ }
+{
+    if t.sites == 0 {
+        return slots::refuse(t, 1);
+    }
+    if are_bad_sites(t, x) {
+        return slots::refuse(t, 3);
+    }
+    let last = t.last;
+    if last.0 == 4294967295 {
+        return slots::refuse(t, 8);
+    }
+    let slot = slots::lowest_free(t);
+    if slot == 32 {
+        return slots::refuse(t, 7);
+    }
+    begun(t, x, slot)
+}
