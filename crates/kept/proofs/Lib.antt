@@ -1,2 +1,1 @@
-pub mod FilledLaws
 pub mod AlignedLaws

@@ -3,7 +3,7 @@ pub mod AnswerLaws
 pub mod SlottedLaws
 mod SiteLaws
 mod EdgeLaws
-mod PassedLaws
+pub mod PassedLaws
 mod ClosureLaws
 mod CycleLaws
 mod FoundLaws

@@ -14,7 +14,7 @@ use Rattle.square.proofs.arrows.row_of.Statement.{statement}
 use Rattle.square.proofs.arrows.row_of.Tie as tie
 
 abbrev Inv-loop : tie.InvT-loop
-Inv-loop tickets i held row₀ j₀ row j = Passed false (λ m v. v ≡ slotArrow tickets i m) (λ m v. v ≡ false) row j
+Inv-loop tickets i held row₀ j₀ row j = Passed 32 false (λ m v. v ≡ slotArrow tickets i m) (λ m v. v ≡ false) row j
 
 abbrev μ-loop : tie.MeasureT-loop
 μ-loop tickets i held row₀ j₀ row j = 32 - j

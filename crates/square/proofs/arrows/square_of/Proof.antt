@@ -15,7 +15,7 @@ use Rattle.square.proofs.arrows.square_of.Statement.{statement}
 use Rattle.square.proofs.arrows.square_of.Tie as tie
 
 abbrev Inv-loop : tie.InvT-loop
-Inv-loop tickets held square₀ i₀ square i = Passed [] (λ m row. RowIs (slotArrow tickets m) row) (λ m row. RowIs (λ j. false) row) square i
+Inv-loop tickets held square₀ i₀ square i = Passed 32 [] (λ m row. RowIs (slotArrow tickets m) row) (λ m row. RowIs (λ j. false) row) square i
 
 abbrev μ-loop : tie.MeasureT-loop
 μ-loop tickets held square₀ i₀ square i = 32 - i

@@ -10,7 +10,7 @@ use Rattle.square.proofs.closure.joined.Statement.{statement}
 use Rattle.square.proofs.closure.joined.Tie as tie
 
 abbrev Inv-loop : tie.InvT-loop
-Inv-loop a b row₀ j₀ row j = Passed false (λ m v. v ≡ getD a m false || getD b m false) (λ m v. v ≡ false) row j
+Inv-loop a b row₀ j₀ row j = Passed 32 false (λ m v. v ≡ getD a m false || getD b m false) (λ m v. v ≡ false) row j
 
 abbrev μ-loop : tie.MeasureT-loop
 μ-loop a b row₀ j₀ row j = 32 - j

@@ -15,7 +15,7 @@ use Rattle.square.proofs.closure.step_over.Statement.{statement}
 use Rattle.square.proofs.closure.step_over.Tie as tie
 
 abbrev Inv-loop : tie.InvT-loop
-Inv-loop square₀ k next i₀ square i = Passed [] (λ m row. RowIs (over square₀ k m) row) (λ m row. row ≡ getD square₀ m []) square i
+Inv-loop square₀ k next i₀ square i = Passed 32 [] (λ m row. RowIs (over square₀ k m) row) (λ m row. row ≡ getD square₀ m []) square i
 
 abbrev μ-loop : tie.MeasureT-loop
 μ-loop square₀ k next i₀ square i = 32 - i

@@ -11,7 +11,7 @@ use Rattle.square.proofs.slots.holders.Statement.{statement}
 use Rattle.square.proofs.slots.holders.Tie as tie
 
 abbrev Inv-loop : tie.InvT-loop
-Inv-loop tickets held₀ i₀ held i = Passed false (λ m v. v ≡ false → Blank tickets m) (λ m v. v ≡ false) held i
+Inv-loop tickets held₀ i₀ held i = Passed 32 false (λ m v. v ≡ false → Blank tickets m) (λ m v. v ≡ false) held i
 
 abbrev μ-loop : tie.MeasureT-loop
 μ-loop tickets held₀ i₀ held i = 32 - i

@@ -1,0 +1,61 @@
+-- `sweeps::held` meets its contract. Assumes nothing.
+use mathlib.Core.Path.{_≡_, refl}
+use mathlib.Core.Bool.{false, _&&_}
+use Prim.Native.Nat.{_-_}
+use native.Mathlib.Omega.{arith}
+use borrow.Author.Needs.{needs}
+use Rattle.square.specs.Passed.{Passed}
+use Rattle.square.proofs.PassedLaws.{passed-none, passed-set, done-of-all}
+use Rattle.method.specs.Records.{committed, rowAt}
+use Rattle.method.specs.Conditions.{heldBack}
+use Rattle.sweeps.proofs.held.Statement.{statement}
+use Rattle.sweeps.proofs.held.Tie as tie
+
+abbrev Inv-loop : tie.InvT-loop
+Inv-loop t marks₀ i₀ marks i = Passed 32 false (λ j b. b ≡ committed (rowAt t j) && heldBack t (rowAt t j)) (λ j b. Unit {0}) marks i
+
+abbrev μ-loop : tie.MeasureT-loop
+μ-loop t marks₀ i₀ marks i = 32 - i
+
+loop-holds : tie.Need-loop-holds Inv-loop μ-loop
+loop-holds c = passed-none refl (λ j h. tt)
+
+mul-row : tie.Need-mul-row Inv-loop μ-loop
+mul-row c = search needs
+
+element-copy-out-row : tie.Need-element-copy-out-row Inv-loop μ-loop
+element-copy-out-row c = search needs
+
+is-held-requires : tie.Need-is-held-requires Inv-loop μ-loop
+is-held-requires c κs = search needs
+
+array-write-marks : tie.Need-array-write-marks Inv-loop μ-loop
+array-write-marks c = search needs
+
+add-i : tie.Need-add-i Inv-loop μ-loop
+add-i c = search needs
+
+loop-less : tie.Need-loop-less Inv-loop μ-loop
+loop-less c = search needs
+
+loop-again : tie.Need-loop-again Inv-loop μ-loop
+loop-again c = passed-set (omega arith) (c .before .before .before .loop .inv) (c .is-held .ensures)
+
+returns : tie.Need-returns Inv-loop μ-loop
+returns c = record { size = c .before .loop .inv .size; each = done-of-all (c .loop-test .left) (c .before .loop .inv) }
+
+pub held-spec : {M : Type 1} → statement M
+held-spec =
+    tie.close
+    (tie.spec
+    Inv-loop
+    μ-loop
+    loop-holds
+    mul-row
+    element-copy-out-row
+    is-held-requires
+    array-write-marks
+    add-i
+    loop-less
+    loop-again
+    returns)
