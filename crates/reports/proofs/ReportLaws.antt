@@ -12,6 +12,7 @@ use Rattle.method.specs.declared.Row.{Row}
 use Rattle.method.specs.declared.Ticket.{Ticket}
 use Rattle.method.specs.declared.Table.{Table}
 use Rattle.method.specs.declared.Answer.{Answer}
+use Rattle.method.specs.declared.Answered.{Answered}
 use Rattle.method.specs.Records.{part, rowAt, partAt, withRow, withPart}
 use Rattle.method.specs.Slots.{slotOf, rowOfNumber}
 use Rattle.method.specs.Conditions.{isClosed, unknown, notListed, noStep}
@@ -61,6 +62,6 @@ module _ (t : Table) (l : length (t .rows) ≡ 32) (n s : ℕ) (p : Report) (res
       report-base = ap (λ (j : ℕ). partAt (rowAt t j) s .base .0) (passed .slot)
 
       pub report-done : (k : Row → Ticket) → firstTrue rest ≡ none
-          → effect t c ≡ answered (withRow t (slotOf t n) (reported (rowOfNumber t n) s p (k (rowOfNumber t n)))) Answer.Done
-          → step t c ≡ answered (withRow t i (withPart (rowAt t i) s (part g (partAt (rowAt t i) s .base) (k (rowAt t i))))) Answer.Done
-      report-done k e f = unstopped t c (report-on ∙ e) ∙ f ∙ reported-at t n i s p g k (passed .slot) (rw (passed .slot) (placed .stage))
+          → effect t c ≡ answered (withRow t (slotOf t n) (reported (rowOfNumber t n) s p (k (rowOfNumber t n)))) Answer.Done → (r : Answered)
+          → r ≡ answered (withRow t i (withPart (rowAt t i) s (part g (partAt (rowAt t i) s .base) (k (rowAt t i))))) Answer.Done → r ≡ step t c
+      report-done k e f r h = h ∙ sym (unstopped t c (report-on ∙ e) ∙ f ∙ reported-at t n i s p g k (passed .slot) (rw (passed .slot) (placed .stage)))

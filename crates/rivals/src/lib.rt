@@ -20,7 +20,7 @@ fn is_before(x: Ticket, y: Ticket) -> bool
 }
 
 // Is there a site at which both hold a ticket, and a holds the smaller one?
-pub fn goes_before(a: Row, b: Row) -> bool
+fn goes_before(a: Row, b: Row) -> bool
     ensures answer { λ r. ⌜ r ≡ goesb a b ⌝ }
 {
     let mut s: usize = 0;

@@ -65,7 +65,7 @@ pub fn free_row() -> Row
     }
 }
 
-pub fn has_number(r: Row, n: Number) -> bool
+fn has_number(r: Row, n: Number) -> bool
     ensures answer { λ b. ⌜ b ≡ hasNumber (n .0) r ⌝ }
 {
     let state = r.state;
@@ -76,7 +76,7 @@ pub fn has_number(r: Row, n: Number) -> bool
     number.0 == n.0
 }
 
-pub fn find(t: Table, n: Number) -> usize
+fn find(t: Table, n: Number) -> usize
     ensures answer { λ r. ⌜ r ≡ slotOf t (n .0) ⌝ }
 {
     let mut i: usize = 0;

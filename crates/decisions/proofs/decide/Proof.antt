@@ -20,13 +20,13 @@ enter-requires : tie.Need-enter-requires
 enter-requires c κs = search needs
 
 enum-known-k : tie.Need-enum-known-k
-enum-known-k c = search needs
+enum-known-k c = c .match .keys1
 
 refuse-requires : tie.Need-refuse-requires
 refuse-requires c κs = search needs
 
 enum-known-slot : tie.Need-enum-known-slot
-enum-known-slot c = search needs
+enum-known-slot c = c .match .keys2
 
 -- what the call was handed
 module _ (e : tie.After-enter) where
@@ -48,7 +48,7 @@ module _ (c : tie.After-known-told2) where
   slot = c .before .slot .given .0 .0
 
   at : gateOf (t gate) (n gate) ≡ Gate.At slot
-  at = cc
+  at = sym (gate .enter .ensures) ∙ c .before .slot .given .1
 
   inside : slot < 32
   inside = decide-inside (t gate) (slots gate) (n gate) slot at
@@ -102,7 +102,7 @@ commit-requires c κs = inside (found (c .before))
 returns-3 : tie.Need-returns-3
 returns-3 c =
     let e = c .before .before .before .before in
-    let r : gateOf (t e) (n e) ≡ Gate.Refused (c .before .before .k .given .0 .0) = cc in
+    let r : gateOf (t e) (n e) ≡ Gate.Refused (c .before .before .k .given .0 .0) = sym (e .enter .ensures) ∙ c .before .before .k .given .1 in
     c .refuse .ensures ∙ sym (decide-unknown (t e) (slots e) (n e) _ r)
 
 returns-4 : tie.Need-returns-4

@@ -25,13 +25,13 @@ enter-requires : tie.Need-enter-requires
 enter-requires c κs = search needs
 
 enum-known-k : tie.Need-enum-known-k
-enum-known-k c = search needs
+enum-known-k c = c .match .keys1
 
 refuse-requires : tie.Need-refuse-requires
 refuse-requires c κs = search needs
 
 enum-known-slot : tie.Need-enum-known-slot
-enum-known-slot c = search needs
+enum-known-slot c = c .match .keys2
 
 -- past the gate
 module _ (c : tie.After-known-told2) where

@@ -32,10 +32,10 @@ next-step-requires : tie.Need-next-step-requires
 next-step-requires c κs = search needs
 
 enum-known-g : tie.Need-enum-known-g
-enum-known-g c = search needs
+enum-known-g c = c .match .keys1
 
 enum-told : tie.Need-enum-told
-enum-told c = search needs
+enum-told c = c .match .keys2
 
 returns-2 : tie.Need-returns-2
 unfolding placeOf

@@ -32,13 +32,13 @@ enter-requires : tie.Need-enter-requires
 enter-requires c κs = search needs
 
 enum-known-x : tie.Need-enum-known-x
-enum-known-x c = search needs
+enum-known-x c = c .match .keys1
 
 refuse-requires : tie.Need-refuse-requires
 refuse-requires c κs = search needs
 
 enum-known-slot : tie.Need-enum-known-slot
-enum-known-slot c = search needs
+enum-known-slot c = c .match .keys2
 
 -- what the call was handed
 module _ (e : tie.After-enter) where
@@ -63,7 +63,7 @@ module _ (c : tie.After-known-told2) where
   slot = c .before .slot .given .0 .0
 
   at : gateOf (t gate) (n gate) ≡ Gate.At slot
-  at = cc
+  at = sym (gate .enter .ensures) ∙ c .before .slot .given .1
 
   inside : slot < 32
   inside = let e = gate in report-inside (t e) (slots e) (n e) (s e) Report.Prepared [] (reportPrepared (n e) (s e)) (prepared-checks (t e) (n e) (s e)) slot at
@@ -78,13 +78,13 @@ next-place-requires : tie.Need-next-place-requires
 next-place-requires c κs = search needs
 
 enum-known-y : tie.Need-enum-known-y
-enum-known-y c = search needs
+enum-known-y c = c .match2 .keys1
 
 refuse-requires-2 : tie.Need-refuse-requires-2
 refuse-requires-2 c κs = search needs
 
 enum-known-g : tie.Need-enum-known-g
-enum-known-g c = search needs
+enum-known-g c = c .match2 .keys2
 
 -- past the place
 module _ (c : tie.After-known-told4) where
@@ -95,7 +95,7 @@ module _ (c : tie.After-known-told4) where
   g = c .before .g .given .0 .0
 
   to : placeOf (rowAt (t (gate found)) (slot found)) (s (gate found)) Report.Prepared ≡ Place.To g
-  to = cc
+  to = sym (c .before .before .before .next-place .ensures) ∙ c .before .g .given .1
 
   site : s (gate found) < 8
   site = let e = gate found in report-site (t e) (slots e) (n e) (s e) Report.Prepared [] (reportPrepared (n e) (s e)) (prepared-checks (t e) (n e) (s e)) (slot found) (at found) g to
@@ -112,14 +112,14 @@ with-part-requires c κs = let q = c .before .before .before in (inside (found q
 returns : tie.Need-returns
 returns c =
     let e = c .before .before .before .before in
-    let r : gateOf (t e) (n e) ≡ Gate.Refused (c .before .before .x .given .0 .0) = cc in
+    let r : gateOf (t e) (n e) ≡ Gate.Refused (c .before .before .x .given .0 .0) = sym (e .enter .ensures) ∙ c .before .before .x .given .1 in
     c .refuse .ensures ∙ sym (report-unknown (t e) (slots e) (n e) (s e) Report.Prepared [] (reportPrepared (n e) (s e)) (prepared-checks (t e) (n e) (s e)) _ r)
 
 returns-2 : tie.Need-returns-2
 returns-2 c =
     let f = c .before .before .before .before .before .before in
     let e = gate f in
-    let r : placeOf (rowAt (t e) (slot f)) (s e) Report.Prepared ≡ Place.Refused (c .before .before .y .given .0 .0) = cc in
+    let r : placeOf (rowAt (t e) (slot f)) (s e) Report.Prepared ≡ Place.Refused (c .before .before .y .given .0 .0) = sym (c .before .before .before .before .next-place .ensures) ∙ c .before .before .y .given .1 in
     c .refuse2 .ensures ∙ sym (report-misplaced (t e) (slots e) (n e) (s e) Report.Prepared [] (reportPrepared (n e) (s e)) (prepared-checks (t e) (n e) (s e)) (slot f) (at f) _ r)
 
 done : (t : Table) (n s : ℕ) → effect t (reportPrepared n s) ≡ answered (withRow t (slotOf t n) (reported (rowOfNumber t n) s Report.Prepared (partAt (rowOfNumber t n) s .ticket))) Answer.Done
@@ -130,7 +130,7 @@ returns-3 : tie.Need-returns-3
 returns-3 c =
     let q = c .before .before .before .before in
     let e = gate (found q) in
-    c .with-part .ensures ∙ sym (report-done (t e) (slots e) (n e) (s e) Report.Prepared [] (reportPrepared (n e) (s e)) (prepared-checks (t e) (n e) (s e)) (slot (found q)) (at (found q)) (g q) (to q) (λ (r : Row). partAt r (s e) .ticket) refl (done (t e) (n e) (s e)))
+    report-done (t e) (slots e) (n e) (s e) Report.Prepared [] (reportPrepared (n e) (s e)) (prepared-checks (t e) (n e) (s e)) (slot (found q)) (at (found q)) (g q) (to q) (λ (r : Row). partAt r (s e) .ticket) refl (done (t e) (n e) (s e)) (c .with-part .result) (c .with-part .ensures)
 
 pub report-prepared-spec : {M : Type 1} → statement M
 report-prepared-spec =

@@ -31,13 +31,13 @@ enter-requires : tie.Need-enter-requires
 enter-requires c κs = search needs
 
 enum-known-x : tie.Need-enum-known-x
-enum-known-x c = search needs
+enum-known-x c = c .match .keys1
 
 refuse-requires : tie.Need-refuse-requires
 refuse-requires c κs = search needs
 
 enum-known-slot : tie.Need-enum-known-slot
-enum-known-slot c = search needs
+enum-known-slot c = c .match .keys2
 
 -- what the call was handed
 module _ (e : tie.After-enter) where
@@ -65,7 +65,7 @@ module _ (c : tie.After-known-told2) where
   slot = c .before .slot .given .0 .0
 
   at : gateOf (t gate) (n gate) ≡ Gate.At slot
-  at = cc
+  at = sym (gate .enter .ensures) ∙ c .before .slot .given .1
 
   inside : slot < 32
   inside = let e = gate in report-inside (t e) (slots e) (n e) (s e) Report.Ticket (own (t e) (n e) (s e) (k e)) (reportTicket (n e) (s e) (k e)) (ticket-checks (t e) (n e) (s e) (k e)) slot at
@@ -80,13 +80,13 @@ next-place-requires : tie.Need-next-place-requires
 next-place-requires c κs = search needs
 
 enum-known-y : tie.Need-enum-known-y
-enum-known-y c = search needs
+enum-known-y c = c .match2 .keys1
 
 refuse-requires-2 : tie.Need-refuse-requires-2
 refuse-requires-2 c κs = search needs
 
 enum-known-g : tie.Need-enum-known-g
-enum-known-g c = search needs
+enum-known-g c = c .match2 .keys2
 
 -- past the place
 module _ (c : tie.After-known-told4) where
@@ -97,7 +97,7 @@ module _ (c : tie.After-known-told4) where
   g = c .before .g .given .0 .0
 
   to : placeOf (rowAt (t (gate found)) (slot found)) (s (gate found)) Report.Ticket ≡ Place.To g
-  to = cc
+  to = sym (c .before .before .before .next-place .ensures) ∙ c .before .g .given .1
 
   site : s (gate found) < 8
   site = let e = gate found in report-site (t e) (slots e) (n e) (s e) Report.Ticket (own (t e) (n e) (s e) (k e)) (reportTicket (n e) (s e) (k e)) (ticket-checks (t e) (n e) (s e) (k e)) (slot found) (at found) g to
@@ -145,14 +145,14 @@ with-part-requires c κs = let q = c .before .before .before .before .before .be
 returns-3 : tie.Need-returns-3
 returns-3 c =
     let e = c .before .before .before .before in
-    let r : gateOf (t e) (n e) ≡ Gate.Refused (c .before .before .x .given .0 .0) = cc in
+    let r : gateOf (t e) (n e) ≡ Gate.Refused (c .before .before .x .given .0 .0) = sym (e .enter .ensures) ∙ c .before .before .x .given .1 in
     c .refuse .ensures ∙ sym (report-unknown (t e) (slots e) (n e) (s e) Report.Ticket (own (t e) (n e) (s e) (k e)) (reportTicket (n e) (s e) (k e)) (ticket-checks (t e) (n e) (s e) (k e)) _ r)
 
 returns-4 : tie.Need-returns-4
 returns-4 c =
     let f = c .before .before .before .before .before .before in
     let e = gate f in
-    let r : placeOf (rowAt (t e) (slot f)) (s e) Report.Ticket ≡ Place.Refused (c .before .before .y .given .0 .0) = cc in
+    let r : placeOf (rowAt (t e) (slot f)) (s e) Report.Ticket ≡ Place.Refused (c .before .before .y .given .0 .0) = sym (c .before .before .before .before .next-place .ensures) ∙ c .before .before .y .given .1 in
     c .refuse2 .ensures ∙ sym (report-misplaced (t e) (slots e) (n e) (s e) Report.Ticket (own (t e) (n e) (s e) (k e)) (reportTicket (n e) (s e) (k e)) (ticket-checks (t e) (n e) (s e) (k e)) (slot f) (at f) _ r)
 
 done : (t : Table) (n s k : ℕ) → effect t (reportTicket n s k) ≡ answered (withRow t (slotOf t n) (reported (rowOfNumber t n) s Report.Ticket (ticket k))) Answer.Done
@@ -164,7 +164,7 @@ returns-5 c =
     let h = c .before .before in
     let q = h .before .before .before .before .before .before in
     let free = ticket-free (t (e q)) (n (e q)) (s (e q)) (k (e q)) _ (base q) (h .before .if1 .left) (sym (h .is-taken .ensures) ∙ c .before .if2 .left) in
-    c .with-part .ensures ∙ sym (report-done (t (e q)) (slots (e q)) (n (e q)) (s (e q)) Report.Ticket (own (t (e q)) (n (e q)) (s (e q)) (k (e q))) (reportTicket (n (e q)) (s (e q)) (k (e q))) (ticket-checks (t (e q)) (n (e q)) (s (e q)) (k (e q))) (slot (found q)) (at (found q)) (g q) (to q) (λ (r : Row). ticket (k (e q))) free (done (t (e q)) (n (e q)) (s (e q)) (k (e q))))
+    report-done (t (e q)) (slots (e q)) (n (e q)) (s (e q)) Report.Ticket (own (t (e q)) (n (e q)) (s (e q)) (k (e q))) (reportTicket (n (e q)) (s (e q)) (k (e q))) (ticket-checks (t (e q)) (n (e q)) (s (e q)) (k (e q))) (slot (found q)) (at (found q)) (g q) (to q) (λ (r : Row). ticket (k (e q))) free (done (t (e q)) (n (e q)) (s (e q)) (k (e q))) (c .with-part .result) (c .with-part .ensures)
 
 pub report-ticket-spec : {M : Type 1} → statement M
 report-ticket-spec =
