@@ -1,0 +1,3 @@
+pub mod DecimalLaws
+pub mod SpacedLaws
+pub mod StoreLaws
