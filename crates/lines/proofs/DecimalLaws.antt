@@ -85,7 +85,7 @@ pub length-decimal-32 : (n : ℕ) → n < 2 ^ 32 → length (decimal n) ≤ 10
 length-decimal-32 n h = length-decimal-le 9 n (omega arith)
 
 -- the value
-value-append : (a : ℕ) (l : List ℕ) (b : ℕ) → valueBehind a (l ++ (b ∷ [])) ≡ 10 * valueBehind a l + (b - 48)
+pub value-append : (a : ℕ) (l : List ℕ) (b : ℕ) → valueBehind a (l ++ (b ∷ [])) ≡ 10 * valueBehind a l + (b - 48)
 value-append a [] b = refl
 value-append a (c ∷ l) b = value-append (10 * a + (c - 48)) l b
 
