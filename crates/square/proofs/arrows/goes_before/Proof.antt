@@ -5,8 +5,9 @@ use Prim.Native.Nat.{_≤_, _-_}
 use lib.ListN.{take}
 use borrow.Author.Needs.{needs}
 use Rattle.rows.specs.Arrow.{arrowb}
+use Rattle.rows.proofs.ArrowLaws.{arrow-of-one-more}
 use Rattle.square.specs.Square.{ticketRow}
-use Rattle.square.proofs.SiteLaws.{arrow-of-one-more, arrow-of-all}
+use Rattle.square.proofs.SiteLaws.{arrow-of-all}
 use Rattle.square.proofs.arrows.goes_before.Statement.{statement}
 use Rattle.square.proofs.arrows.goes_before.Tie as tie
 
