@@ -1,13 +1,11 @@
 -- The test of an arrow finds exactly the arrows, and the laws of graphs at rows of tickets. Assumes nothing.
-use mathlib.Core.Path.{_≡_, refl, sym}
-use mathlib.Core.Bool.{Bool, true, false, _&&_, _||_, false≢true, and-false, or-false, or-assoc}
+use mathlib.Core.Path.{_≡_, refl}
+use mathlib.Core.Bool.{Bool, true, false, _&&_, false≢true, and-false}
 use mathlib.Core.List.{List, [], _∷_, map}
 use mathlib.Core.Logic.{_↔_, _⊎_, inl, inr}
-use Prim.Native.Nat.{ℕ, zero, suc, _+_, _<_}
-use native.Mathlib.Numerals.{add-one}
+use Prim.Native.Nat.{ℕ, zero, suc, _<_}
 use native.Mathlib.Omega.{arith}
 use lib.Dec.{ltb, eqb}
-use lib.ListN.{take}
 use borrow.Author.Tests.{ltb-true, lt-ltb, le-ltb, eqb-true, eq-eqb}
 use Rattle.graph.specs.Path.{Cycle, Holds}
 use Rattle.graph.specs.Acyclic.{acyclic}
@@ -38,26 +36,8 @@ module _ (f : ℕ → ℕ → Bool) where
     site→anySite (x ∷ xs) (y ∷ ys) zero e = or-of-left (anySite f xs ys) e
     site→anySite (x ∷ xs) (y ∷ ys) (suc s) e = or-of-right (f x y) (site→anySite xs ys s e)
 
-    one-more : (xs ys : Tickets) (s : ℕ) → anySite f (take (suc s) xs) (take (suc s) ys) ≡ anySite f (take s xs) (take s ys) || f (ticketAt xs s) (ticketAt ys s)
-    one-more [] ys zero = rw (left (ticketAt ys zero))
-    one-more [] ys (suc s) = rw (left (ticketAt ys (suc s)))
-    one-more (x ∷ xs) [] zero = rw (right x)
-    one-more (x ∷ xs) [] (suc s) = rw (right (ticketAt xs s))
-    one-more (x ∷ xs) (y ∷ ys) zero = or-false (f x y)
-    one-more (x ∷ xs) (y ∷ ys) (suc s) =
-        rw (one-more xs ys s) (sym (or-assoc (f x y) (anySite f (take s xs) (take s ys)) (f (ticketAt xs s) (ticketAt ys s))))
-
-    -- a loop over the sites: what the first s show, and site s
-    pub anySite-of-one-more : (xs ys : Tickets) (s : ℕ)
-        → anySite f (take (s + 1) xs) (take (s + 1) ys) ≡ anySite f (take s xs) (take s ys) || f (ticketAt xs s) (ticketAt ys s)
-    anySite-of-one-more xs ys s = rw (add-one s) (one-more xs ys s)
-
 pub beforeb-zero : (x : ℕ) → beforeb x 0 ≡ false
 beforeb-zero x = rw (le-ltb x 0 (omega arith)) (and-false (ltb 0 x))
-
-pub arrow-of-one-more : (xs ys : Tickets) (s : ℕ)
-    → arrowb (take (s + 1) xs) (take (s + 1) ys) ≡ arrowb (take s xs) (take s ys) || beforeb (ticketAt xs s) (ticketAt ys s)
-arrow-of-one-more = anySite-of-one-more beforeb (λ y. refl) beforeb-zero
 
 pub arrowb→arrow : (a b : Tickets) → arrowb a b ≡ true → Arrow a b
 arrowb→arrow a b e =

@@ -57,11 +57,6 @@ pub ticket-rowAt : (flat : List ℕ) (i s : ℕ) → s < 8 → ticketAt (rowAt f
 unfolding rowAt
 ticket-rowAt flat i s h = rw (getD-take 8 (drop (9 * i + 1) flat) s 0 h, getD-drop (9 * i + 1) flat s 0)
 
--- eight sites are all
-pub take-tickets : (flat : List ℕ) (i s : ℕ) → 8 ≤ s → take s (rowAt flat i .tickets) ≡ rowAt flat i .tickets
-unfolding rowAt
-take-tickets flat i s h = take-all s (take 8 (drop (9 * i + 1) flat)) (simp length-take (omega arith))
-
 -- past the list there are no tickets
 pub tickets-past : (flat : List ℕ) (i : ℕ) → length flat / 9 < i → rowAt flat i .tickets ≡ []
 unfolding rowAt

@@ -4,10 +4,9 @@ use mathlib.Core.Path.{_≡_, refl, sym, _∙_}
 use Prim.Native.Nat.{_≤_, _-_, _/_}
 use lib.ListN.{length, take}
 use borrow.Author.Needs.{needs}
-use Rattle.rows.specs.Arrow.{arrowb}
+use Rattle.rows.specs.Arrow.{beforeb, arrowb}
 use Rattle.rows.specs.Rows.{rowAt}
-use Rattle.rows.proofs.ArrowLaws.{arrow-of-one-more}
-use Rattle.rows.proofs.RowsLaws.{take-tickets}
+use Rattle.rows.proofs.WalkLaws.{arrow-more, any-site-all}
 use Rattle.arrows.proofs.PastLaws.{no-arrow-of-past, no-arrow-to-past}
 use Rattle.arrows.proofs.goes_before.Statement.{statement}
 use Rattle.arrows.proofs.goes_before.Tie as tie
@@ -48,15 +47,14 @@ loop-again c =
       search needs,
       l .loop .inv .1,
       l .loop .inv .2,
-      rw (l .loop .inv .3, c .before .ticket-of .ensures, c .ticket-of2 .ensures, arrow-of-one-more (row (a .a) .tickets) (row (a .b) .tickets) (l .loop .s)),
+      rw (l .loop .inv .3, c .before .ticket-of .ensures, c .ticket-of2 .ensures, arrow-more (row (a .a) .tickets) (row (a .b) .tickets) (l .loop .s)),
     )
 
 returns-3 : tie.Need-returns-3 Inv-loop μ-loop
 returns-3 c =
     let l = c .before in
     let a = l .before .before .before .before .args in
-    let s = l .loop .s in
-    l .loop .inv .3 ∙ rw (take-tickets (a .rows .now) (a .a) s (c .loop-test .left), take-tickets (a .rows .now) (a .b) s (c .loop-test .left))
+    l .loop .inv .3 ∙ any-site-all beforeb (a .rows .now) (a .a) (a .b) (l .loop .s) (c .loop-test .left)
 
 pub goes-before-spec : {M : Type 1} → statement M
 goes-before-spec =
