@@ -16,3 +16,4 @@ pub mod MapLaws
 pub mod PartsLaws
 pub mod ReachedLaws
 pub mod CheckLaws
+pub mod FullLaws

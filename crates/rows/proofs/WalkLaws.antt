@@ -8,8 +8,9 @@ use native.Mathlib.Omega.{arith}
 use lib.ListN.{take, drop, length-take}
 use lib.Seq.{take-all}
 use Rattle.graph.specs.Lists.{anyOf}
-use Rattle.rows.specs.Arrow.{Tickets, ticketAt, anySite}
+use Rattle.rows.specs.Arrow.{Tickets, ticketAt, anySite, beforeb, arrowb}
 use Rattle.rows.specs.Rows.{Row, rowAt, rowsFrom}
+use Rattle.rows.proofs.ArrowLaws.{beforeb-zero}
 
 -- of n rows, those from row i on
 module _ (flat : List ℕ) (i n : ℕ) where
@@ -53,3 +54,8 @@ take-row flat i s h = take-all s (take 8 (drop (9 * i + 1) flat)) (simp length-t
 pub any-site-all : (f : ℕ → ℕ → Bool) (flat : List ℕ) (i j s : ℕ) → 8 ≤ s
     → anySite f (take s (rowAt flat i .tickets)) (take s (rowAt flat j .tickets)) ≡ anySite f (rowAt flat i .tickets) (rowAt flat j .tickets)
 any-site-all f flat i j s h = rw (take-row flat i s h, take-row flat j s h)
+
+-- an arrow, site by site
+pub arrow-more : (xs ys : Tickets) (s : ℕ)
+    → arrowb (take (s + 1) xs) (take (s + 1) ys) ≡ arrowb (take s xs) (take s ys) || beforeb (ticketAt xs s) (ticketAt ys s)
+arrow-more = any-site-more beforeb (λ y. refl) beforeb-zero
