@@ -9,7 +9,7 @@ ghost use Rattle.good.specs.Scan.{Within};
 use entries::number_at;
 use entries::ticket_at;
 
-mod entries;
+pub mod entries;
 
 // Have rows i and j the same number, or the same ticket at a site? All are compared, so that the loop has no branch.
 fn clashes(rows: &[u32], i: usize, j: usize) -> bool

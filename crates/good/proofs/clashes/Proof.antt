@@ -22,10 +22,10 @@ abbrev μ-loop : tie.MeasureT-loop
 μ-loop rows i j a b found₀ s₀ found s = 8 - s
 
 number-at-requires : tie.Need-number-at-requires Inv-loop μ-loop
-number-at-requires c κs = c .before .pre .0
+number-at-requires c κs = tt
 
 number-at-requires-2 : tie.Need-number-at-requires-2 Inv-loop μ-loop
-number-at-requires-2 c κs = c .before .before .pre .1
+number-at-requires-2 c κs = tt
 
 loop-holds : tie.Need-loop-holds Inv-loop μ-loop
 loop-holds c = (search needs, rw (c .before .number-at .ensures, c .number-at2 .ensures) (sym (or-false _)))

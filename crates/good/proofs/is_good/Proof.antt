@@ -29,7 +29,7 @@ loop-holds c =
     (search needs, refl, omega arith, good-of-rest flat (omega arith) (omega arith))
 
 number-at-requires : tie.Need-number-at-requires Inv-loop μ-loop
-number-at-requires c κs = (c .before .loop .inv .2, search needs)
+number-at-requires c κs = tt
 
 returns-3 : tie.Need-returns-3 Inv-loop μ-loop
 returns-3 c =
