@@ -16,3 +16,5 @@ pub mod MapLaws
 pub mod PartsLaws
 pub mod ReachedLaws
 pub mod CheckLaws
+pub mod FullLaws
+pub mod SearchLaws

@@ -28,7 +28,7 @@ clash→Clash q r e = go (either-of-or (eqb (q .number) (r .number)) (anySite sa
         let (p, f) = sameb→same (ticketAt (q .tickets) s) (ticketAt (r .tickets) s) k in
         inr (s, p, f)
 
-sameb-zero : (x : ℕ) → sameb x 0 ≡ false
+pub sameb-zero : (x : ℕ) → sameb x 0 ≡ false
 sameb-zero x = false-of-not-true (sameb x 0) (λ e. let (p, f) = sameb→same x 0 e in omega arith)
 
 pub Clash→clash : (q r : Row) → Clash q r → clash q r ≡ true

@@ -5,7 +5,7 @@ use Prim.Native.Nat.{ℕ, zero, suc, _+_, _*_, _/_, _%_, _<_, _≤_}
 use native.Mathlib.Omega.{arith}
 use native.Mathlib.Nat.{div-add-mod', not-suc-le-zero}
 use native.Mathlib.Numerals.{add-one}
-use lib.ListN.{length, getD, take, drop, length-append, length-take, length-drop}
+use lib.ListN.{length, getD, take, drop, length-append, length-take, length-drop, drop-of-length-le}
 use lib.Seq.{drop-cons, take-add, drop-drop, getD-take, getD-drop, take-all, append-snoc, take-at, drop-at, getD-at}
 use Rattle.graph.specs.Lists.{_∈_, At}
 use Rattle.graph.proofs.PlaceLaws.{at-of-member}
@@ -56,6 +56,11 @@ number-rowAt flat i = refl
 pub ticket-rowAt : (flat : List ℕ) (i s : ℕ) → s < 8 → ticketAt (rowAt flat i .tickets) s ≡ getD flat (9 * i + 1 + s) 0
 unfolding rowAt
 ticket-rowAt flat i s h = rw (getD-take 8 (drop (9 * i + 1) flat) s 0 h, getD-drop (9 * i + 1) flat s 0)
+
+-- past the list there are no tickets
+pub tickets-past : (flat : List ℕ) (i : ℕ) → length flat / 9 < i → rowAt flat i .tickets ≡ []
+unfolding rowAt
+tickets-past flat i h = rw (drop-of-length-le flat {i = 9 * i + 1} (omega arith))
 
 -- back to the flat list
 flat-of-rowsFrom : (flat : List ℕ) (i k : ℕ) → 9 * i + 9 * k ≤ length flat → flatOf (rowsFrom flat i k) ≡ take (9 * k) (drop (9 * i) flat)

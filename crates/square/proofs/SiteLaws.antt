@@ -1,34 +1,19 @@
 -- Loops over the eight sites: what s of them show of an arrow and of a slot without a ticket. Assumes nothing.
-use mathlib.Core.Path.{_≡_, refl, sym}
-use mathlib.Core.Bool.{Bool, true, false, _||_, or-false, or-assoc, true≢false}
-use mathlib.Core.List.{List, [], _∷_}
-use Prim.Native.Nat.{ℕ, zero, suc, _+_, _*_, _<_, _≤_}
+use mathlib.Core.Path.{_≡_, refl}
+use mathlib.Core.Bool.{Bool, true, false, _||_, true≢false}
+use mathlib.Core.List.{List}
+use Prim.Native.Nat.{ℕ, _+_, _*_, _<_, _≤_}
 use native.Mathlib.Decide.{decLe}
-use native.Mathlib.Numerals.{add-one}
 use native.Mathlib.Omega.{arith}
 use lib.Dec.{ltb}
 use lib.ListN.{take, drop, length-take}
 use lib.Seq.{take-all}
 use borrow.Author.Count.{below-more}
 use borrow.Author.Tests.{ltb-false}
-use Rattle.rows.specs.Arrow.{Tickets, ticketAt, beforeb, arrowb}
-use Rattle.rows.proofs.ArrowLaws.{beforeb-zero}
+use Rattle.rows.specs.Arrow.{Tickets, ticketAt, arrowb}
 use Rattle.square.specs.Square.{ticketRow}
 use Rattle.square.specs.Entries.{Blank}
 use Rattle.square.proofs.SlotLaws.{ticket-past}
-
-one-more : (xs ys : Tickets) (s : ℕ) → arrowb (take (suc s) xs) (take (suc s) ys) ≡ arrowb (take s xs) (take s ys) || beforeb (ticketAt xs s) (ticketAt ys s)
-one-more [] ys zero = refl
-one-more [] ys (suc s) = refl
-one-more (x ∷ xs) [] zero = rw (beforeb-zero x)
-one-more (x ∷ xs) [] (suc s) = rw (beforeb-zero (ticketAt xs s))
-one-more (x ∷ xs) (y ∷ ys) zero = or-false (beforeb x y)
-one-more (x ∷ xs) (y ∷ ys) (suc s) =
-    rw (one-more xs ys s) (sym (or-assoc (beforeb x y) (arrowb (take s xs) (take s ys)) (beforeb (ticketAt xs s) (ticketAt ys s))))
-
-pub arrow-of-one-more : (xs ys : Tickets) (s : ℕ)
-    → arrowb (take (s + 1) xs) (take (s + 1) ys) ≡ arrowb (take s xs) (take s ys) || beforeb (ticketAt xs s) (ticketAt ys s)
-arrow-of-one-more xs ys s = rw (add-one s) (one-more xs ys s)
 
 take-row : (flat : List ℕ) (i s : ℕ) → 8 ≤ s → take s (ticketRow flat i) ≡ ticketRow flat i
 unfolding ticketRow

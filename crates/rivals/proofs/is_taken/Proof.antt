@@ -10,7 +10,8 @@ use Rattle.method.specs.declared.Row.{Row}
 use Rattle.method.specs.Records.{pastEnd}
 use Rattle.method.specs.Conditions.{holdsOther, taken}
 use Prim.Native.Nat.{ℕ}
-use Rattle.method.proofs.SearchLaws.{any-hit, any-skip, any-end, unmapped}
+use Rattle.graph.proofs.SearchLaws.{any-hit, any-skip, any-end}
+use Rattle.method.proofs.SearchLaws.{unmapped}
 use Rattle.rivals.proofs.is_taken.Statement.{statement}
 use Rattle.rivals.proofs.is_taken.Tie as tie
 

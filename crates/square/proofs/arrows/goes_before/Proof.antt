@@ -5,8 +5,9 @@ use Prim.Native.Nat.{_≤_, _-_}
 use lib.ListN.{take}
 use borrow.Author.Needs.{needs}
 use Rattle.rows.specs.Arrow.{arrowb}
+use Rattle.rows.proofs.WalkLaws.{arrow-more}
 use Rattle.square.specs.Square.{ticketRow}
-use Rattle.square.proofs.SiteLaws.{arrow-of-one-more, arrow-of-all}
+use Rattle.square.proofs.SiteLaws.{arrow-of-all}
 use Rattle.square.proofs.arrows.goes_before.Statement.{statement}
 use Rattle.square.proofs.arrows.goes_before.Tie as tie
 
@@ -36,7 +37,7 @@ loop-again c =
     let l = c .before .before .before in
     let a = l .before .args in
     let row = ticketRow (a .tickets .now) in
-    (search needs, rw (l .loop .inv .1, c .before .ticket-at .ensures, c .ticket-at2 .ensures, arrow-of-one-more (row (a .i)) (row (a .j)) (l .loop .s)))
+    (search needs, rw (l .loop .inv .1, c .before .ticket-at .ensures, c .ticket-at2 .ensures, arrow-more (row (a .i)) (row (a .j)) (l .loop .s)))
 
 returns : tie.Need-returns Inv-loop μ-loop
 returns c =

@@ -1,0 +1,36 @@
+-- `arrows::ticket_of` meets its contract: what the list does not hold reads as 0. Assumes nothing.
+use mathlib.Core.Path.{sym, _∙_}
+use borrow.Author.Needs.{needs}
+use denote.Ref.{now}
+use lib.ListN.{List·getD-eq-default}
+use Rattle.rows.proofs.RowsLaws.{ticket-rowAt}
+use Rattle.arrows.proofs.ticket_of.Statement.{statement}
+use Rattle.arrows.proofs.ticket_of.Tie as tie
+
+mul-k : tie.Need-mul-k
+mul-k c = search needs
+
+add-k : tie.Need-add-k
+add-k c = search needs
+
+add-k-2 : tie.Need-add-k-2
+add-k-2 c = search needs
+
+mul-result : tie.Need-mul-result
+mul-result c = search needs
+
+shared-slice-read-result : tie.Need-shared-slice-read-result
+shared-slice-read-result c = search needs
+
+returns : tie.Need-returns
+returns c =
+    let a = c .before .before .args in
+    sym (ticket-rowAt (now (a .rows)) (a .i) (a .s) (c .before .before .pre .1))
+
+returns-2 : tie.Need-returns-2
+returns-2 c =
+    let a = c .before .args in
+    sym (ticket-rowAt (now (a .rows)) (a .i) (a .s) (c .before .pre .1) ∙ List·getD-eq-default (now (a .rows)) 0 (c .if1 .left))
+
+pub ticket-of-spec : {M : Type 1} → statement M
+ticket-of-spec = tie.close (tie.spec mul-k add-k add-k-2 mul-result shared-slice-read-result returns returns-2)
