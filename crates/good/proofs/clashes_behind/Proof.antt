@@ -1,0 +1,76 @@
+-- `good::clashes_behind` meets its contract: what is found behind row i is what is found from row j on. Assumes nothing.
+use mathlib.Core.Path.{_≡_, refl, sym, _∙_}
+use Prim.Native.Nat.{_+_, _≤_, _-_, _/_}
+use native.Mathlib.Omega.{arith}
+use lib.ListN.{length}
+use denote.Ref.{now}
+use borrow.Author.Needs.{needs}
+use Rattle.graph.specs.Lists.{anyOf}
+use Rattle.rows.specs.Rows.{rowAt, rowsFrom}
+use Rattle.rows.specs.Good.{clash}
+use Rattle.rows.proofs.WalkLaws.{any-row-hit, any-row-skip, any-row-end}
+use Rattle.good.proofs.clashes_behind.Statement.{statement}
+use Rattle.good.proofs.clashes_behind.Tie as tie
+
+abbrev Inv-loop : tie.InvT-loop
+Inv-loop rows i n j₀ j =
+    (j ≤ n) × (n ≡ length rows / 9) × (anyOf (clash (rowAt rows i)) (rowsFrom rows (i + 1) (n - (i + 1))) ≡ anyOf (clash (rowAt rows i)) (rowsFrom rows j (n - j)))
+
+abbrev μ-loop : tie.MeasureT-loop
+μ-loop rows i n j₀ j = n - j
+
+add-j : tie.Need-add-j Inv-loop μ-loop
+add-j c = search needs
+
+loop-holds : tie.Need-loop-holds Inv-loop μ-loop
+loop-holds c = (search needs, refl, refl)
+
+clashes-requires : tie.Need-clashes-requires Inv-loop μ-loop
+clashes-requires c κs =
+    let p = c .before .before .before .pre in
+    (p, (p .0, search needs))
+
+returns : tie.Need-returns Inv-loop μ-loop
+returns c =
+    let l = c .before .before .before in
+    let a = l .before .before .args in
+    let f = clash (rowAt (now (a .rows)) (a .i)) in
+    sym (l .loop .inv .2 ∙ any-row-hit (now (a .rows)) (l .loop .j) _ f (c .before .before .loop-test .taken) (sym (c .before .clashes .ensures) ∙ c .if1 .taken))
+
+add-j-2 : tie.Need-add-j-2 Inv-loop μ-loop
+add-j-2 c = search needs
+
+loop-less : tie.Need-loop-less Inv-loop μ-loop
+loop-less c = search needs
+
+loop-again : tie.Need-loop-again Inv-loop μ-loop
+loop-again c =
+    let l = c .before .before .before in
+    let a = l .before .before .args in
+    let f = clash (rowAt (now (a .rows)) (a .i)) in (
+      search needs,
+      refl,
+      l .loop .inv .2 ∙ any-row-skip (now (a .rows)) (l .loop .j) _ f (c .before .before .loop-test .taken) (sym (c .before .clashes .ensures) ∙ c .if1 .left),
+    )
+
+returns-2 : tie.Need-returns-2 Inv-loop μ-loop
+returns-2 c =
+    let l = c .before in
+    let a = l .before .before .args in
+    let f = clash (rowAt (now (a .rows)) (a .i)) in
+    sym (l .loop .inv .2 ∙ any-row-end (now (a .rows)) (l .loop .j) _ f (c .loop-test .left))
+
+pub clashes-behind-spec : {M : Type 1} → statement M
+clashes-behind-spec =
+    tie.close
+    (tie.spec
+    Inv-loop
+    μ-loop
+    add-j
+    loop-holds
+    clashes-requires
+    returns
+    add-j-2
+    loop-less
+    loop-again
+    returns-2)

@@ -1,0 +1,70 @@
+// Is a ticket table good? Its rows lie flat, nine entries each: the number, then eight tickets. RULES, Orders.
+ghost use mathlib.Core.Path.{_≡_};
+ghost use Prim.Native.Nat.{_+_, _-_, _/_};
+ghost use lib.ListN.{length};
+ghost use Rattle.graph.specs.Lists.{anyOf};
+ghost use Rattle.rows.specs.Rows.{rowAt, rowsFrom};
+ghost use Rattle.rows.specs.Good.{clash, goodb};
+ghost use Rattle.good.specs.Scan.{Within};
+use entries::number_at;
+use entries::ticket_at;
+
+pub mod entries;
+
+// Have rows i and j the same number, or the same ticket at a site? All are compared, so that the loop has no branch.
+fn clashes(rows: &[u32], i: usize, j: usize) -> bool
+    requires { ⌜ Within (now rows) i × Within (now rows) j ⌝ }
+    ensures answer { λ r. ⌜ r ≡ clash (rowAt (now (rows .entry)) i) (rowAt (now (rows .entry)) j) ⌝ }
+{
+    let a = number_at(rows, i);
+    let b = number_at(rows, j);
+    let mut found = a == b;
+    let mut s: usize = 0;
+    while s < 8 {
+        let x = ticket_at(rows, i, s);
+        let y = ticket_at(rows, j, s);
+        found = found | ((0 < x) & (x == y));
+        s += 1;
+    }
+    found
+}
+
+// Does row i clash with one that stands behind it?
+fn clashes_behind(rows: &[u32], i: usize) -> bool
+    requires { ⌜ Within (now rows) i ⌝ }
+    ensures answer { λ r. ⌜ r ≡ anyOf (clash (rowAt (now (rows .entry)) i)) (rowsFrom (now (rows .entry)) (i + 1) (length (now (rows .entry)) / 9 - (i + 1))) ⌝ }
+{
+    let n = rows.len() / 9;
+    let mut j = i + 1;
+    while j < n {
+        if clashes(rows, i, j) {
+            return true;
+        }
+        j += 1;
+    }
+    false
+}
+
+// Whole rows, at most 32, no number 0, and no two rows with the same number or with the same ticket at a site.
+pub fn is_good(rows: &[u32]) -> bool
+    ensures answer { λ r. ⌜ r ≡ goodb (now (rows .entry)) ⌝ }
+{
+    if rows.len() % 9 != 0 {
+        return false;
+    }
+    if 288 < rows.len() {
+        return false;
+    }
+    let n = rows.len() / 9;
+    let mut i: usize = 0;
+    while i < n {
+        if number_at(rows, i) == 0 {
+            return false;
+        }
+        if clashes_behind(rows, i) {
+            return false;
+        }
+        i += 1;
+    }
+    true
+}
