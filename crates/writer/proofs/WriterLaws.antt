@@ -2,15 +2,16 @@
 use mathlib.Core.Path.{_≡_, refl, sym, ap, _∙_}
 use mathlib.Core.Bool.{true, false}
 use mathlib.Core.List.{List}
-use Prim.Native.Nat.{ℕ, _+_, _/_, _<_, _≤_}
+use Prim.Native.Nat.{ℕ, _+_, _-_, _/_, _<_, _≤_}
 use native.Mathlib.Omega.{arith}
-use lib.Dec.{ltb, eqb}
+use lib.Dec.{eqb, leb}
 use lib.ListN.{length, take}
 use lib.Seq.{length-take-le}
-use borrow.Author.Tests.{lt-ltb, le-ltb, eq-eqb, ne-eqb}
+use borrow.Author.Tests.{leb-true, le-leb, lt-ltb, le-ltb, eq-eqb, ne-eqb}
 use Rattle.endian.specs.Laid.{laid}
 use Rattle.graph.specs.Acyclic.{acyclic}
 use Rattle.graph.specs.Order.{greedy}
+use Rattle.graph.proofs.TestLaws.{same-of-iff}
 use Rattle.graph.proofs.FullLaws.{length-greedy-le, acyclic-of-length}
 use Rattle.rows.specs.Rows.{numberOf, rowArrowb, rowsOf}
 use Rattle.rows.specs.Good.{goodb}
@@ -20,6 +21,11 @@ use Rattle.rows.specs.Write.{orderWritten, writeResult}
 use Rattle.rows.proofs.RowsLaws.{length-rowsOf}
 use Rattle.rows.proofs.GoodLaws.{goodb→good}
 use Rattle.writer.specs.Picks.{PickedOrder}
+
+pub room-of-rest : (len place n : ℕ) → place ≤ len → leb (place + n) len ≡ leb n (len - place)
+room-of-rest len place n h = same-of-iff (leb (place + n) len) (leb n (len - place))
+    (λ e. le-leb n (len - place) (omega (arith, leb-true (place + n) len e)))
+    (λ e. le-leb (place + n) len (omega (arith, leb-true n (len - place) e)))
 
 module _ (flat : List ℕ) (place : ℕ) (out : List ℕ) where
   -- it answers this and leaves that

@@ -1,6 +1,7 @@
 // The writer of an order: at each place the smallest number that may stand there. RULES, Orders.
 ghost use mathlib.Core.Path.{_≡_};
-ghost use Prim.Native.Nat.{_≤_};
+ghost use Prim.Native.Nat.{_+_, _≤_};
+ghost use lib.Dec.{leb};
 ghost use lib.ListN.{length, take};
 ghost use Rattle.endian.specs.Laid.{laid};
 ghost use Rattle.rows.specs.Reply.{writeReply};
@@ -23,26 +24,34 @@ fn lay(out: &mut [u32], numbers: [u32; 32], n: usize)
     }
 }
 
+// Are there n entries from the place on, in a buffer of that length? place + n might wrap.
+fn has_room(len: usize, place: usize, n: usize) -> bool
+    ensures answer { λ r. ⌜ r ≡ leb (place + n) len ⌝ }
+{
+    if len < place {
+        return false;
+    }
+    n <= len - place
+}
+
 // Writes an order of the rows from the place on, and says how many numbers it wrote; or refuses, and leaves the buffer as it is.
 pub fn write(rows: &[u32], place: usize, out: &mut [u32]) -> WriteAnswer
     ensures answer { λ r. ⌜ writeReply r ≡ writeResult (now (rows .entry)) place (now (out .entry)) .0 ⌝ }
     ensures buffer { λ _. ⌜ now (out .exit) ≡ writeResult (now (rows .entry)) place (now (out .entry)) .1 ⌝ }
 {
-    if !is_good(rows) {
-        return WriteAnswer::Bad;
-    }
+    let good = is_good(rows);
     let n = rows.len() / 9;
-    // place + n might wrap
-    if out.len() < place {
-        return WriteAnswer::NoRoom;
-    }
-    if out.len() - place < n {
-        return WriteAnswer::NoRoom;
+    let room = has_room(out.len(), place, n);
+    if !good {
+        return WriteAnswer::Bad;
     }
     // picked apart from the buffer, which a refusal leaves as it is
     let p = pick(rows);
     let count = p.count;
     let numbers = p.numbers;
+    if !room {
+        return WriteAnswer::NoRoom;
+    }
     if count < n {
         return WriteAnswer::NoOrder;
     }

@@ -3,9 +3,9 @@ use mathlib.Core.Path.{_≡_, sym, _∙_}
 use mathlib.Core.Bool.{true}
 use Prim.Native.Nat.{_+_, _/_, _≤_}
 use native.Mathlib.Omega.{arith}
-use lib.ListN.{length, take, drop}
+use lib.ListN.{length}
 use borrow.Author.Needs.{needs}
-use borrow.Author.Tests.{not-true, not-false}
+use borrow.Author.Tests.{not-true, not-false, leb-true, leb-false}
 use Rattle.endian.proofs.PartLaws.{part-is, part-put, laid-of-part}
 use Rattle.rows.specs.Good.{goodb}
 use Rattle.rows.proofs.GoodLaws.{goodb→good}
@@ -16,68 +16,69 @@ use Rattle.writer.proofs.write.Tie as tie
 is-good-requires : tie.Need-is-good-requires
 is-good-requires c κs = search needs
 
+has-room-requires : tie.Need-has-room-requires
+has-room-requires c κs = search needs
+
 returns : tie.Need-returns
 returns c =
-    let a = c .before .before .before .before .args in
-    leaves-bad (a .rows .now) (a .place) (a .out .now) (sym (c .before .is-good .ensures) ∙ not-true _ (c .if1 .taken))
+    let s = c .before .before in
+    let a = s .before .before .before .args in
+    leaves-bad (a .rows .now) (a .place) (a .out .now) (sym (s .is-good .ensures) ∙ not-true _ (c .if1 .taken))
 
--- behind the first check
-good : (c : tie.Else1) → goodb (c .before .before .before .before .args .rows .now) ≡ true
-good c = sym (c .before .is-good .ensures) ∙ not-false _ (c .if1 .left)
+-- behind the first check, and behind the second
+good : (c : tie.Else1) → goodb (c .before .before .before .before .before .args .rows .now) ≡ true
+good c = sym (c .before .before .is-good .ensures) ∙ not-false _ (c .if1 .left)
+
+pick-requires : tie.Need-pick-requires
+pick-requires c κs = goodb→good _ (good c)
 
 returns-2 : tie.Need-returns-2
 returns-2 c =
-    let s = c .before in
-    let a = s .before .before .before .before .args in
-    leaves-no-room (a .rows .now) (a .place) (a .out .now) (good s) (omega arith)
+    let s = c .before .before .before in
+    let a = s .before .before .before .before .before .args in
+    let n = length (a .rows .now) / 9 in
+    leaves-no-room (a .rows .now) (a .place) (a .out .now) (good s) (leb-false (a .place + n) (length (a .out .now)) (sym (s .before .has-room .ensures) ∙ not-true _ (c .if2 .taken)))
 
-sub-if3 : tie.Need-sub-if3
-sub-if3 c = search needs
+room : (c : tie.Else2) → let a = c .before .before .before .before .before .before .before .before .args in a .place + length (a .rows .now) / 9 ≤ length (a .out .now)
+room c =
+    let s = c .before .before .before in
+    leb-true _ _ (sym (s .before .has-room .ensures) ∙ not-false _ (c .if2 .left))
 
 returns-3 : tie.Need-returns-3
 returns-3 c =
-    let s = c .before .before in
-    let a = s .before .before .before .before .args in
-    leaves-no-room (a .rows .now) (a .place) (a .out .now) (good s) (omega arith)
-
-pick-requires : tie.Need-pick-requires
-pick-requires c κs = goodb→good _ (good (c .before .before))
-
-returns-4 : tie.Need-returns-4
-returns-4 c =
-    let t = c .before .before .before in
-    let s = t .before .before in
-    let a = s .before .before .before .before .args in
-    leaves-short (a .rows .now) (a .place) (a .out .now) (good s) (omega arith) _ _ (c .before .before .pick .ensures) (c .if4 .taken)
+    let q = c .before .before .before in
+    let s = q .before in
+    let a = s .before .before .before .before .before .args in
+    leaves-short (a .rows .now) (a .place) (a .out .now) (good s) (room (c .before)) _ _ (q .pick .ensures) (c .if3 .taken)
 
 mul-lay : tie.Need-mul-lay
-mul-lay c = search needs
+mul-lay c = let h = room (c .before) in search needs
 
 sub-lay : tie.Need-sub-lay
-sub-lay c = search needs
+sub-lay c = omega (arith, room (c .before))
 
 part-lay-start : tie.Need-part-lay-start
-part-lay-start c = search needs
+part-lay-start c = let h = room (c .before) in search needs
 
 part-lay-end : tie.Need-part-lay-end
 part-lay-end c = search needs
 
 lay-requires : tie.Need-lay-requires
-lay-requires c κs = search needs
+lay-requires c κs = let h = room (c .before .before) in search needs
 
 same-length : tie.Need-same-length
 same-length c = search needs
 
-returns-5 : tie.Need-returns-5
-returns-5 c =
+returns-4 : tie.Need-returns-4
+returns-4 c =
     let e = c .before .before .before .before in
-    let q = e .before .before in
-    let s = q .before .before .before in
-    let a = s .before .before .before .before .args in
+    let q = e .before .before .before in
+    let s = q .before in
+    let a = s .before .before .before .before .before .args in
     let l = a .out .now in
     let p = a .place in
-    let h : p ≤ length l = omega arith in
-    let r = leaves-full (a .rows .now) p l (good s) (omega arith) _ _ (q .pick .ensures) (e .if4 .left) in
+    let h : p ≤ length l = omega (arith, room (e .before)) in
+    let r = leaves-full (a .rows .now) p l (good s) (room (e .before)) _ _ (q .pick .ensures) (e .if3 .left) in
     (r .0, part-put l p h (c .before .before .lay .last .0) ∙ rw (c .before .before .lay .ensures, part-is l p h, laid-of-part l p h) (r .1))
 
 pub write-spec : {M : Type 1} → statement M
@@ -85,16 +86,15 @@ write-spec =
     tie.close
     (tie.spec
     is-good-requires
+    has-room-requires
     returns
-    returns-2
-    sub-if3
-    returns-3
     pick-requires
-    returns-4
+    returns-2
+    returns-3
     mul-lay
     sub-lay
     part-lay-start
     part-lay-end
     lay-requires
     same-length
-    returns-5)
+    returns-4)
