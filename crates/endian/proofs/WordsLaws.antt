@@ -2,15 +2,14 @@
 use mathlib.Core.Path.{_≡_, _∙_, refl, sym, ap}
 use mathlib.Core.List.{List, [], _∷_, _++_}
 use Prim.Native.Nat.{ℕ, zero, suc, _+_, _*_, _/_, _%_, _≤_, _<_}
-use native.Mathlib.Nat.{zero-add}
-use native.Mathlib.Numerals.{add-one}
 use native.Mathlib.Omega.{arith}
 use lib.ListN.{length, getD, drop, set, length-drop}
-use lib.Seq.{paste, paste-suc}
+use lib.Seq.{paste}
 use Rattle.endian.specs.Bytes.{words, wordBytes}
 use Rattle.endian.specs.Places.{Below, word32}
 use Rattle.endian.proofs.BytesLaws.{be32-of-bytes32, bytes32-of-be32}
 use Rattle.endian.proofs.PlacesLaws.{word32-of-drop}
+use Rattle.endian.proofs.PartLaws.{paste-more}
 
 pub words-of-append : (l s : List ℕ) → words (wordBytes l ++ s) ≡ l ++ words s
 unfolding words wordBytes
@@ -69,6 +68,4 @@ getD-words-of-drop s a i h = getD-words (drop a s) i (simp length-drop (omega ar
 -- one number more at the front of a list that is being filled
 pub paste-words-more : (l s : List ℕ) (i : ℕ) → i < length l → 4 * i + 4 ≤ length s →
     set (paste l 0 (words s) i) i (word32 s (4 * i)) ≡ paste l 0 (words s) (i + 1)
-paste-words-more l s i k h =
-    rw (← getD-words s i h, add-one i)
-    (ap (λ (j : ℕ). set (paste l 0 (words s) i) j (getD (words s) i 0)) (sym (zero-add i)) ∙ paste-suc l 0 (words s) i 0 (omega arith) (omega (arith, length-words s)))
+paste-words-more l s i k h = rw (← getD-words s i h) (paste-more l (words s) i k (omega (arith, length-words s)))
