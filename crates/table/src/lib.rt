@@ -5,6 +5,7 @@ ghost use Prim.Native.Nat.{_*_};
 ghost use lib.ListN.{length};
 ghost use Rattle.method.specs.Records.{closed as closedTable};
 ghost use Rattle.method.specs.Slots.{keptFlat};
+ghost use Rattle.method.specs.Conditions.{isClosed};
 ghost use Rattle.method.specs.Calls.Call.{openWith, begin as beginCall, reportTicket, reportPrepared, abort as abortCall, decide as decideCall, forget as forgetCall, sweep as sweepCall};
 ghost use Rattle.packing.specs.Packed.{packedOf};
 ghost use Rattle.table.specs.Shut.{shutTable, answerTo, tableAfter, usedBy};
@@ -114,6 +115,14 @@ pub fn sweep(t: Table) -> Answered
     let held = t.held;
     let a = sweeps::sweep(held);
     shut(a)
+}
+
+// Has it not been opened yet?
+pub fn is_closed(t: Table) -> bool
+    ensures answer { λ r. ⌜ r ≡ isClosed (t .held) ⌝ }
+{
+    let held = t.held;
+    held.sites == 0
 }
 
 // The kept rows as a ticket table, by slot.
