@@ -17,3 +17,4 @@ pub mod PartsLaws
 pub mod ReachedLaws
 pub mod CheckLaws
 pub mod FullLaws
+pub mod SearchLaws

@@ -1,4 +1,5 @@
--- A loop that looks at one place after the other, for the first that passes or for any that does: what is found from place i on.
+-- A loop that looks at one place after the other for the first that passes: what is found from place i on. (For any that
+-- passes, see SearchLaws of the graph.)
 -- Assumes nothing.
 use mathlib.Core.Path.{_≡_, refl}
 use mathlib.Core.Bool.{Bool, true, false, cond, _&&_, _||_}
@@ -24,15 +25,6 @@ module _ {A : Type 0} (f : A → Bool) (rows : List A) (d : A) (i : ℕ) where
   pub first-end : length rows ≤ i → i + firstAt f (drop i rows) ≡ i
   unfolding firstAt
   first-end h = rw (drop-of-length-le rows h) (omega arith)
-
-  pub any-hit : i < length rows → f (getD rows i d) ≡ true → anyOf f (drop i rows) ≡ true
-  any-hit h e = rw (drop-cons rows i d h, e)
-
-  pub any-skip : i < length rows → f (getD rows i d) ≡ false → anyOf f (drop i rows) ≡ anyOf f (drop (i + 1) rows)
-  any-skip h e = rw (drop-cons rows i d h, e, add-one i)
-
-  pub any-end : length rows ≤ i → anyOf f (drop i rows) ≡ false
-  any-end h = rw (drop-of-length-le rows h)
 
 -- the length of an array that a struct holds, from what owning the struct tells: `search (needs, unmapped)` finds it
 pub unmapped : (X Y : Type 0) (f : X → Y) (l : List X) (n : ℕ) → length (map f l) ≡ n → length l ≡ n

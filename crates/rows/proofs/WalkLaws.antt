@@ -2,14 +2,14 @@
 use mathlib.Core.Path.{_≡_, refl, sym}
 use mathlib.Core.Bool.{Bool, true, false, _||_, or-false, or-assoc}
 use mathlib.Core.List.{List, [], _∷_}
-use Prim.Native.Nat.{ℕ, zero, suc, _+_, _-_, _*_, _<_, _≤_}
+use Prim.Native.Nat.{ℕ, zero, suc, _+_, _-_, _*_, _/_, _<_, _≤_}
 use native.Mathlib.Numerals.{add-one}
 use native.Mathlib.Omega.{arith}
-use lib.ListN.{take, drop, length-take}
+use lib.ListN.{length, take, drop, length-take}
 use lib.Seq.{take-all}
 use Rattle.graph.specs.Lists.{anyOf}
 use Rattle.rows.specs.Arrow.{Tickets, ticketAt, anySite, beforeb, arrowb}
-use Rattle.rows.specs.Rows.{Row, rowAt, rowsFrom}
+use Rattle.rows.specs.Rows.{Row, rowAt, rowsFrom, rowsOf}
 use Rattle.rows.proofs.ArrowLaws.{beforeb-zero}
 
 -- of n rows, those from row i on
@@ -32,6 +32,11 @@ module _ (flat : List ℕ) (i n : ℕ) where
 
     pub any-row-end : n ≤ i → anyOf f (rowsFrom flat i (n - i)) ≡ false
     any-row-end h = rw (rows-end h)
+
+-- a search through all of them
+pub any-row-start : (flat : List ℕ) (f : Row → Bool) → anyOf f (rowsOf flat) ≡ anyOf f (rowsFrom flat 0 (length flat / 9 - 0))
+unfolding rowsOf
+any-row-start flat f = let e : length flat / 9 - 0 ≡ length flat / 9 = omega arith in rw e
 
 -- a test of two tickets that fails where one of them is 0, over the first s sites
 module _ (f : ℕ → ℕ → Bool) (left : (y : ℕ) → f 0 y ≡ false) (right : (x : ℕ) → f x 0 ≡ false) where

@@ -10,7 +10,8 @@ use Rattle.method.specs.declared.Row.{Row}
 use Rattle.method.specs.Records.{pastEnd, committed, goesb}
 use Rattle.method.specs.Slots.{kept}
 use Rattle.method.specs.Conditions.{hasPred}
-use Rattle.method.proofs.SearchLaws.{any-hit, any-skip, any-end, unmapped, any-of-kept}
+use Rattle.graph.proofs.SearchLaws.{any-hit, any-skip, any-end}
+use Rattle.method.proofs.SearchLaws.{unmapped, any-of-kept}
 use Rattle.rivals.proofs.has_pred.Statement.{statement}
 use Rattle.rivals.proofs.has_pred.Tie as tie
 

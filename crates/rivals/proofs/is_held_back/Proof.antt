@@ -11,7 +11,8 @@ use Rattle.method.specs.declared.Row.{Row}
 use Rattle.method.specs.Records.{pastEnd, active}
 use Rattle.method.specs.Slots.{activeRows}
 use Rattle.method.specs.Conditions.{heldBack}
-use Rattle.method.proofs.SearchLaws.{any-hit, any-skip, any-end, unmapped, any-of-kept}
+use Rattle.graph.proofs.SearchLaws.{any-hit, any-skip, any-end}
+use Rattle.method.proofs.SearchLaws.{unmapped, any-of-kept}
 use Rattle.rivals.proofs.is_held_back.Statement.{statement}
 use Rattle.rivals.proofs.is_held_back.Tie as tie
 

@@ -10,7 +10,8 @@ use Rattle.method.specs.declared.Row.{Row}
 use Rattle.method.specs.Records.{pastEnd}
 use Rattle.method.specs.Conditions.{holdsOther, taken}
 use Prim.Native.Nat.{ℕ}
-use Rattle.method.proofs.SearchLaws.{any-hit, any-skip, any-end, unmapped}
+use Rattle.graph.proofs.SearchLaws.{any-hit, any-skip, any-end}
+use Rattle.method.proofs.SearchLaws.{unmapped}
 use Rattle.rivals.proofs.is_taken.Statement.{statement}
 use Rattle.rivals.proofs.is_taken.Tie as tie
 
@@ -33,7 +34,7 @@ element-copy-out-r : tie.Need-element-copy-out-r Inv-loop μ-loop
 element-copy-out-r c = search needs
 
 holds-other-requires : tie.Need-holds-other-requires Inv-loop μ-loop
-holds-other-requires c κs = c .before .before .before .pre
+holds-other-requires c κs = search needs
 
 returns : tie.Need-returns Inv-loop μ-loop
 returns c =

@@ -1,0 +1,2 @@
+mod StandLaws
+mod AnswerLaws

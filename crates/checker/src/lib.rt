@@ -1,0 +1,30 @@
+// The check of a proposed order of a ticket table. It trusts nobody: the table is looked at first, and then each place of the
+// order by itself. RULES, Orders.
+ghost use mathlib.Core.Path.{_≡_};
+ghost use Rattle.rows.specs.Reply.{checkReply};
+ghost use Rattle.rows.specs.Order.{checkResult};
+use good::is_good;
+use places::may_stand;
+use rows::CheckAnswer;
+
+mod places;
+
+pub fn check(rows: &[u32], order: &[u32]) -> CheckAnswer
+    ensures answer { λ r. ⌜ checkReply r ≡ checkResult (now (rows .entry)) (now (order .entry)) ⌝ }
+{
+    if !is_good(rows) {
+        return CheckAnswer::Bad;
+    }
+    // a number left out, or one too many
+    if order.len() != rows.len() / 9 {
+        return CheckAnswer::No;
+    }
+    let mut p: usize = 0;
+    while p < order.len() {
+        if !may_stand(rows, &order[..p], order[p]) {
+            return CheckAnswer::No;
+        }
+        p += 1;
+    }
+    CheckAnswer::Yes
+}
