@@ -1,9 +1,8 @@
 -- A row past the list has no arrows. Assumes nothing.
 use mathlib.Core.Path.{_≡_, refl}
-use mathlib.Core.Bool.{false, _||_}
+use mathlib.Core.Bool.{false}
 use mathlib.Core.List.{List, [], _∷_}
 use Prim.Native.Nat.{ℕ, _<_, _/_}
-use lib.Dec.{ltb}
 use lib.ListN.{length}
 use Rattle.rows.specs.Arrow.{Tickets, arrowb}
 use Rattle.rows.specs.Rows.{rowAt, rowArrowb}

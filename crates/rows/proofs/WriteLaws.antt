@@ -2,15 +2,13 @@
 use mathlib.Core.Path.{_≡_, refl, sym, ap, _∙_}
 use mathlib.Core.Bool.{Bool, true, false, cond}
 use mathlib.Core.List.{List}
-use mathlib.Core.Logic.{_↔_}
-use Prim.Native.Nat.{ℕ, _+_, _<_}
+use Prim.Native.Nat.{ℕ, _+_}
 use native.Mathlib.Omega.{arith}
 use lib.Dec.{ltb}
 use lib.ListN.{length}
 use borrow.Author.Tests.{ltb-true, ltb-false}
 use Rattle.endian.specs.Laid.{laid}
-use Rattle.graph.specs.Lists.{Once}
-use Rattle.graph.specs.Path.{Cycle, Holds}
+use Rattle.graph.specs.Path.{Holds}
 use Rattle.graph.specs.Acyclic.{acyclic}
 use Rattle.graph.specs.Order.{greedy}
 use Rattle.graph.specs.Smallest.{NextAfter, SmallestFirst}
@@ -23,7 +21,7 @@ use Rattle.rows.specs.Good.{GoodRows, goodb}
 use Rattle.rows.specs.Reply.{Reply}
 use Rattle.rows.specs.Reply.Reply.{refused, wrote}
 use Rattle.rows.specs.Order.{InOrder}
-use Rattle.rows.specs.Write.{Room, Written, Written.bad, Written.noRoom, Written.noOrder, Written.written, orderWritten, writeResult}
+use Rattle.rows.specs.Write.{Written, Written.bad, Written.noRoom, Written.noOrder, Written.written, orderWritten, writeResult}
 use Rattle.rows.proofs.ArrowLaws.{arrowb→arrow, arrow→arrowb}
 use Rattle.rows.proofs.GoodLaws.{goodb→good, bad-of-goodb}
 use Rattle.rows.proofs.OrderLaws.{order-of-inOrder, inOrder-of-greedy, order-exists-iff-no-cycle}

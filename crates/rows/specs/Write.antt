@@ -1,15 +1,15 @@
 -- What the writer of an order answers, and what the lent buffer holds then. RULES, Orders.
 use mathlib.Core.Path.{_≡_}
-use mathlib.Core.Bool.{Bool, cond}
+use mathlib.Core.Bool.{cond}
 use mathlib.Core.List.{List}
-use Prim.Native.Nat.{ℕ, _+_, _<_, _≤_}
+use Prim.Native.Nat.{ℕ, _+_, _≤_}
 use lib.Dec.{ltb}
 use lib.ListN.{length}
 use Rattle.endian.specs.Laid.{laid}
 use Rattle.graph.specs.Acyclic.{acyclic}
 use Rattle.graph.specs.Order.{greedy}
 use Rattle.graph.specs.Smallest.{SmallestFirst}
-use Rattle.rows.specs.Rows.{Row, numberOf, RowArrow, rowArrowb, rowsOf}
+use Rattle.rows.specs.Rows.{numberOf, RowArrow, rowArrowb, rowsOf}
 use Rattle.rows.specs.Good.{GoodRows, goodb}
 use Rattle.rows.specs.Order.{InOrder}
 use Rattle.rows.specs.Reply.{Reply}

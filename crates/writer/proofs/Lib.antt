@@ -2,3 +2,4 @@ mod BelowLaws
 mod NextLaws
 mod PlacingLaws
 mod WriterLaws
+pub mod EdgeLaws

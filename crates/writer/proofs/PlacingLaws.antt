@@ -1,9 +1,8 @@
 -- The picking of an order, a place at a time: its start, a place more, the end, and where no row may stand. Assumes nothing.
-use mathlib.Core.Path.{_≡_, refl, sym, ap, _∙_}
+use mathlib.Core.Path.{_≡_, refl, sym, _∙_}
 use mathlib.Core.Bool.{Bool, true, false, _||_, or-false}
 use mathlib.Core.List.{List, [], _∷_, _++_, append-nil, map}
-use mathlib.Core.Logic.{_≢_}
-use Prim.Native.Nat.{ℕ, zero, suc, _+_, _-_, _/_, _<_, _≤_}
+use Prim.Native.Nat.{ℕ, suc, _+_, _-_, _/_, _<_, _≤_}
 use native.Mathlib.Decide.{ℕ-discrete}
 use native.Mathlib.Numerals.{add-one}
 use native.Mathlib.Omega.{arith}
@@ -13,14 +12,13 @@ use lib.Seq.{getD-set-same, getD-set-other, take-suc-set}
 use borrow.Author.Tests.{eq-eqb, ne-eqb}
 use Rattle.graph.specs.Lists.{Once}
 use Rattle.graph.specs.Path.{Holds}
-use Rattle.graph.specs.Order.{Distinct, write, greedy}
+use Rattle.graph.specs.Order.{write, greedy}
 use Rattle.graph.specs.Smallest.{NextAfter, placed, left}
 use Rattle.graph.proofs.TestLaws.{or-of-right}
 use Rattle.graph.proofs.CountLaws.{at-of-map, distinct-of-once}
 use Rattle.graph.proofs.LeftLaws.{any-append}
 use Rattle.graph.proofs.SmallestLaws.{greedy-of-left, order-of-one-more, write-of-no-next-after}
 use Rattle.rows.specs.Rows.{numberOf, rowArrowb, rowAt, rowsOf}
-use Rattle.rows.specs.Good.{GoodRows}
 use Rattle.rows.proofs.RowsLaws.{length-rowsOf, at-rowsOf}
 use Rattle.writer.specs.Next.{mayStand, numberAt, nextOf}
 use Rattle.writer.specs.Picks.{Placing}

@@ -46,7 +46,7 @@ module _ (flat : List ℕ) (place : ℕ) (out : List ℕ) where
       unfolding writeResult
       leaves-no-order e = rw (g, length-rowsOf flat, le-ltb (length out) (place + length flat / 9) h, e) (refl, refl)
 
-      leaves-order : acyclic rowArrowb (rowsOf flat) ≡ true → (o : List ℕ) → o ≡ greedy rowArrowb numberOf (rowsOf flat) → Leaves (wrote (length o)) (laid out place o)
+      pub leaves-order : acyclic rowArrowb (rowsOf flat) ≡ true → (o : List ℕ) → o ≡ greedy rowArrowb numberOf (rowsOf flat) → Leaves (wrote (length o)) (laid out place o)
       unfolding writeResult orderWritten
       leaves-order e o q = rw (g, length-rowsOf flat, le-ltb (length out) (place + length flat / 9) h, e, q) (refl, refl)
 

@@ -49,10 +49,11 @@ pub fn write(rows: &[u32], place: usize, out: &mut [u32]) -> WriteAnswer
     let p = pick(rows);
     let count = p.count;
     let numbers = p.numbers;
+    let full = n <= count;
     if !room {
         return WriteAnswer::NoRoom;
     }
-    if count < n {
+    if !full {
         return WriteAnswer::NoOrder;
     }
     lay(&mut out[place..], numbers, n);

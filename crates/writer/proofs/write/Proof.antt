@@ -49,7 +49,7 @@ returns-3 c =
     let q = c .before .before .before in
     let s = q .before in
     let a = s .before .before .before .before .before .args in
-    leaves-short (a .rows .now) (a .place) (a .out .now) (good s) (room (c .before)) _ _ (q .pick .ensures) (c .if3 .taken)
+    leaves-short (a .rows .now) (a .place) (a .out .now) (good s) (room (c .before)) _ _ (q .pick .ensures) (leb-false _ _ (not-true _ (c .if3 .taken)))
 
 mul-lay : tie.Need-mul-lay
 mul-lay c = let h = room (c .before) in search needs
@@ -64,7 +64,11 @@ part-lay-end : tie.Need-part-lay-end
 part-lay-end c = search needs
 
 lay-requires : tie.Need-lay-requires
-lay-requires c κs = let h = room (c .before .before) in search needs
+lay-requires c κs =
+    let e = c .before .before in
+    let h = room e in
+    let f = goodb→good _ (good (e .before .before .before)) .few in
+    search needs
 
 same-length : tie.Need-same-length
 same-length c = search needs
@@ -78,7 +82,7 @@ returns-4 c =
     let l = a .out .now in
     let p = a .place in
     let h : p ≤ length l = omega (arith, room (e .before)) in
-    let r = leaves-full (a .rows .now) p l (good s) (room (e .before)) _ _ (q .pick .ensures) (e .if3 .left) in
+    let r = leaves-full (a .rows .now) p l (good s) (room (e .before)) _ _ (q .pick .ensures) (leb-true _ _ (not-false _ (e .if3 .left))) in
     (r .0, part-put l p h (c .before .before .lay .last .0) ∙ rw (c .before .before .lay .ensures, part-is l p h, laid-of-part l p h) (r .1))
 
 pub write-spec : {M : Type 1} → statement M

@@ -1,5 +1,4 @@
 -- `writer::picks::is_lower` meets its contract. Assumes nothing.
-use mathlib.Core.Path.{sym}
 use borrow.Author.Needs.{needs}
 use borrow.Author.Tests.{le-leb, lt-leb}
 use Rattle.writer.proofs.picks.is_lower.Statement.{statement}

@@ -1,5 +1,4 @@
 -- `writer::picks::is_waited_for` meets its contract. Assumes nothing.
-use mathlib.Core.Path.{sym, _∙_}
 use borrow.Author.Needs.{needs}
 use Rattle.writer.proofs.picks.is_waited_for.Statement.{statement}
 use Rattle.writer.proofs.picks.is_waited_for.Tie as tie
