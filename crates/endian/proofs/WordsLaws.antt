@@ -5,12 +5,14 @@ use Prim.Native.Nat.{ℕ, zero, suc, _+_, _*_, _/_, _%_, _≤_, _<_}
 use native.Mathlib.Nat.{zero-add}
 use native.Mathlib.Numerals.{add-one}
 use native.Mathlib.Omega.{arith}
-use lib.ListN.{length, getD, drop, set, length-drop}
+use lib.ListN.{length, getD, take, drop, set, length-drop}
 use lib.Seq.{paste, paste-suc}
 use Rattle.endian.specs.Bytes.{words, wordBytes}
 use Rattle.endian.specs.Places.{Below, word32}
+use Rattle.endian.specs.Laid.{laid, stored}
 use Rattle.endian.proofs.BytesLaws.{be32-of-bytes32, bytes32-of-be32}
 use Rattle.endian.proofs.PlacesLaws.{word32-of-drop}
+use Rattle.endian.proofs.LaidLaws.{stored-of-room, take-laid-through}
 
 pub words-of-append : (l s : List ℕ) → words (wordBytes l ++ s) ≡ l ++ words s
 unfolding words wordBytes
@@ -72,3 +74,14 @@ pub paste-words-more : (l s : List ℕ) (i : ℕ) → i < length l → 4 * i + 4
 paste-words-more l s i k h =
     rw (← getD-words s i h, add-one i)
     (ap (λ (j : ℕ). set (paste l 0 (words s) i) j (getD (words s) i 0)) (sym (zero-add i)) ∙ paste-suc l 0 (words s) i 0 (omega arith) (omega (arith, length-words s)))
+
+-- numbers that were read into the front of a list with room for them stand there
+module _ (l t s : List ℕ) (e : t ≡ stored l 0 (words s)) (h : length s / 4 ≤ length l) where
+  pub words-of-stored : take (length s / 4) t ≡ words s
+  words-of-stored =
+      let r : 0 + length (words s) ≤ length l = omega (arith, length-words s) in
+      rw (e, ← stored-of-room l (words s) 0 r .1, ← length-words s)
+      (ap (λ (n : ℕ). take n (laid l 0 (words s))) (sym (zero-add (length (words s)))) ∙ take-laid-through l (words s) 0 r)
+
+  pub length-of-stored : length s / 4 ≡ length (take (length s / 4) t)
+  length-of-stored = rw words-of-stored (sym (length-words s))
