@@ -2,4 +2,5 @@ pub mod BytesLaws
 pub mod BelowLaws
 pub mod PlacesLaws
 pub mod LaidLaws
+pub mod PartLaws
 pub mod WordsLaws

@@ -64,7 +64,7 @@ module _ {A : Type 0} {Arrow : A → A → Type 0} (num : A → ℕ) where
           member-of-at order i (rw e at p)
 
 module _ {A : Type 0} (num : A → ℕ) where
-  at-of-map : (l : List A) (i : ℕ) (x : A) → At l i x → At (map num l) i (num x)
+  pub at-of-map : (l : List A) (i : ℕ) (x : A) → At l i x → At (map num l) i (num x)
   at-of-map [] i x p = absurd p
   at-of-map (y ∷ l) zero x p = rw p
   at-of-map (y ∷ l) (suc i) x p = at-of-map l i x p

@@ -3,9 +3,8 @@
 ghost use mathlib.Core.Path.{_≡_};
 ghost use mathlib.Core.Bool.{_&&_};
 ghost use lib.Dec.{leb};
-ghost use Prim.Native.Nat.{_<_};
 ghost use Rattle.rows.specs.Arrow.{beforeb};
-ghost use Rattle.method.specs.Records.{active, committed, goesb};
+ghost use Rattle.method.specs.Records.{active, committed, goesb, partAt};
 ghost use Rattle.method.specs.Conditions.{hasPred, heldBack, holdsOther, taken};
 use method::Number;
 use method::Row;
@@ -91,8 +90,18 @@ pub fn is_held_back(t: Table, r: Row) -> bool
     false
 }
 
+// The ticket of a row at a site: 0 for none, and at a site that no row has.
+fn ticket_at(row: Row, s: usize) -> Ticket
+    ensures answer { λ k. ⌜ k ≡ partAt row s .ticket ⌝ }
+{
+    if 8 <= s {
+        return Ticket(0);
+    }
+    let p = row.parts[s];
+    p.ticket
+}
+
 fn holds_other(r: Row, n: Number, s: usize, k: Ticket) -> bool
-    requires { ⌜ s < 8 ⌝ }
     ensures answer { λ b. ⌜ b ≡ holdsOther (n .0) s (k .0) r ⌝ }
 {
     let state = r.state;
@@ -103,14 +112,12 @@ fn holds_other(r: Row, n: Number, s: usize, k: Ticket) -> bool
     if number.0 == n.0 {
         return false;
     }
-    let p = r.parts[s];
-    let x = p.ticket;
+    let x = ticket_at(r, s);
     x.0 == k.0
 }
 
 // Does another transaction in the table hold the ticket at the site?
 pub fn is_taken(t: Table, n: Number, s: usize, k: Ticket) -> bool
-    requires { ⌜ s < 8 ⌝ }
     ensures answer { λ b. ⌜ b ≡ taken t (n .0) s (k .0) ⌝ }
 {
     let mut i: usize = 0;

@@ -5,5 +5,4 @@ pub mod JudgedLaws
 pub mod OrderLaws
 pub mod WriteLaws
 pub mod CCallLaws
-pub mod PastedLaws
 pub mod WalkLaws

@@ -8,6 +8,7 @@ use native.Mathlib.Omega.{arith}
 use lib.Dec.{ltb}
 use lib.ListN.{length}
 use borrow.Author.Tests.{ltb-true, ltb-false}
+use Rattle.endian.specs.Laid.{laid}
 use Rattle.graph.specs.Lists.{Once}
 use Rattle.graph.specs.Path.{Cycle, Holds}
 use Rattle.graph.specs.Acyclic.{acyclic}
@@ -22,7 +23,7 @@ use Rattle.rows.specs.Good.{GoodRows, goodb}
 use Rattle.rows.specs.Reply.{Reply}
 use Rattle.rows.specs.Reply.Reply.{refused, wrote}
 use Rattle.rows.specs.Order.{InOrder}
-use Rattle.rows.specs.Write.{pasted, Room, Written, Written.bad, Written.noRoom, Written.noOrder, Written.written, orderWritten, writeResult}
+use Rattle.rows.specs.Write.{Room, Written, Written.bad, Written.noRoom, Written.noOrder, Written.written, orderWritten, writeResult}
 use Rattle.rows.proofs.ArrowLaws.{arrowb→arrow, arrow→arrowb}
 use Rattle.rows.proofs.GoodLaws.{goodb→good, bad-of-goodb}
 use Rattle.rows.proofs.OrderLaws.{order-of-inOrder, inOrder-of-greedy, order-exists-iff-no-cycle}
@@ -89,4 +90,4 @@ module _ (flat : List ℕ) (place : ℕ) (out : List ℕ) where
   write-unique q r a b (written o e k g n x s) (noOrder f l h m i) = absurd (i (o, x))
   write-unique q r a b (written o e k g n x s) (written p f l h m y t) =
       let z = same-order g o p x s y t in
-      (e ∙ ap {B = Reply} (λ w. wrote (length w)) z ∙ sym f, k ∙ ap (pasted out place) z ∙ sym l)
+      (e ∙ ap {B = Reply} (λ w. wrote (length w)) z ∙ sym f, k ∙ ap (laid out place) z ∙ sym l)

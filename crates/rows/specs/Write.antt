@@ -1,10 +1,11 @@
 -- What the writer of an order answers, and what the lent buffer holds then. RULES, Orders.
 use mathlib.Core.Path.{_≡_}
 use mathlib.Core.Bool.{Bool, cond}
-use mathlib.Core.List.{List, _++_}
+use mathlib.Core.List.{List}
 use Prim.Native.Nat.{ℕ, _+_, _<_, _≤_}
 use lib.Dec.{ltb}
-use lib.ListN.{length, take, drop}
+use lib.ListN.{length}
+use Rattle.endian.specs.Laid.{laid}
 use Rattle.graph.specs.Acyclic.{acyclic}
 use Rattle.graph.specs.Order.{greedy}
 use Rattle.graph.specs.Smallest.{SmallestFirst}
@@ -13,10 +14,6 @@ use Rattle.rows.specs.Good.{GoodRows, goodb}
 use Rattle.rows.specs.Order.{InOrder}
 use Rattle.rows.specs.Reply.{Reply}
 use Rattle.rows.specs.Reply.Reply.{refused, wrote}
-
--- the buffer with a list written into it from a place on; every entry before and after stays
-abbrev pub pasted : List ℕ → ℕ → List ℕ → List ℕ
-pasted out place l = take place out ++ (l ++ drop (place + length l) out)
 
 -- the place lies within the buffer, or at its end, and as many entries follow as there are rows
 abbrev pub Room : List ℕ → ℕ → List ℕ → Type 0
@@ -27,12 +24,12 @@ pub data Written (flat : List ℕ) (place : ℕ) (out : List ℕ) (r : Reply) (a
   bad : r ≡ refused 13 → after ≡ out → ¬ GoodRows flat → Written flat place out r after
   noRoom : r ≡ refused 14 → after ≡ out → GoodRows flat → ¬ Room flat place out → Written flat place out r after
   noOrder : r ≡ refused 12 → after ≡ out → GoodRows flat → Room flat place out → ¬ ((o : List ℕ) × InOrder (rowsOf flat) o) → Written flat place out r after
-  written : (o : List ℕ) → r ≡ wrote (length o) → after ≡ pasted out place o → GoodRows flat → Room flat place out
+  written : (o : List ℕ) → r ≡ wrote (length o) → after ≡ laid out place o → GoodRows flat → Room flat place out
       → InOrder (rowsOf flat) o → SmallestFirst RowArrow numberOf (rowsOf flat) o → Written flat place out r after
 
 -- the same, computed: the answer, and the buffer
 unfoldable pub orderWritten : List ℕ → ℕ → List ℕ → List ℕ → Reply × List ℕ
-orderWritten flat place out o = (wrote (length o), pasted out place o)
+orderWritten flat place out o = (wrote (length o), laid out place o)
 
 unfoldable pub writeResult : List ℕ → ℕ → List ℕ → Reply × List ℕ
 writeResult flat place out =

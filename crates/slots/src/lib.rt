@@ -1,7 +1,6 @@
 // The slots of a table: what a row is, where a number and a free slot are, a slot freed. 32 stands for no slot.
 // RULES, The table.
 ghost use mathlib.Core.Path.{_≡_};
-ghost use Prim.Native.Nat.{_<_};
 ghost use Rattle.method.specs.Records.{isFree, isActive, isCommitted, freeRow, withRow};
 ghost use Rattle.method.specs.Slots.{hasNumber, slotOf, freeSlot};
 ghost use Rattle.method.specs.Effects.{answered};
@@ -134,12 +133,17 @@ pub fn refuse(t: Table, k: u8) -> Answered
     }
 }
 
-// The table with a slot freed.
+// The table with a slot freed. There are 32 slots: of another one nothing is freed.
 pub fn without(t: Table, slot: usize) -> Answered
-    requires { ⌜ slot < 32 ⌝ }
     ensures answer { λ r. ⌜ r ≡ answered (withRow t slot freeRow) Answer.Done ⌝ }
 {
     let mut u = t;
+    if 32 <= slot {
+        return Answered {
+            table: u,
+            answer: Answer::Done,
+        };
+    }
     let f = free_row();
     u.rows[slot] = f;
     Answered {

@@ -66,7 +66,7 @@ returns c =
     c .refuse2 .ensures ∙ sym (rw (p .on, sym (p .slot), sym (c .before .before .is-active .ensures), c .before .if1 .taken))
 
 without-requires : tie.Need-without-requires
-without-requires c κs = passed (c .before .before .before) .inside
+without-requires c κs = search needs
 
 returns-2 : tie.Need-returns-2
 unfolding step act checks

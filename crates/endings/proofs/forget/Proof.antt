@@ -98,7 +98,7 @@ returns-3 c =
     ∙ sym (rw (p .on, sym (p .slot), sym (s .before .is-committed .ensures), s .if1 .left, sym (q .has-pred .ensures), h .before .if2 .left, sym (h .is-held-back .ensures), c .before .if3 .taken))
 
 without-requires : tie.Need-without-requires
-without-requires c κs = passed (c .before .before .before .before .before .before .before) .inside
+without-requires c κs = search needs
 
 returns-4 : tie.Need-returns-4
 unfolding step act checks

@@ -128,7 +128,7 @@ returns c =
     c .refuse3 .ensures ∙ sym (stops q 5 (ticket-below (t (e q)) (n (e q)) (s (e q)) (k (e q)) _ (base q) (c .before .if1 .taken)))
 
 is-taken-requires : tie.Need-is-taken-requires
-is-taken-requires c κs = site (c .before .before .before .before .before)
+is-taken-requires c κs = search needs
 
 refuse-requires-4 : tie.Need-refuse-requires-4
 refuse-requires-4 c κs = search needs

@@ -16,17 +16,14 @@ returns-2 c =
     let f = c .before .before .before .before in
     sym (rw (sym (f .before .is-free .ensures) ∙ f .if1 .left, eq-eqb _ _ (c .if2 .taken)))
 
-mul-p : tie.Need-mul-p
-mul-p c = search needs
-
-element-copy-out-p : tie.Need-element-copy-out-p
-element-copy-out-p c = search needs
+ticket-at-requires : tie.Need-ticket-at-requires
+ticket-at-requires c κs = search needs
 
 returns-3 : tie.Need-returns-3
 returns-3 c =
-    let e = c .before .before .before .before in
+    let e = c .before .before .before in
     let f = e .before .before .before .before in
-    sym (rw (sym (f .before .is-free .ensures) ∙ f .if1 .left, ne-eqb _ _ (e .if2 .left)))
+    sym (rw (sym (f .before .is-free .ensures) ∙ f .if1 .left, ne-eqb _ _ (e .if2 .left), sym (c .before .before .ticket-at .ensures)))
 
 pub holds-other-spec : {M : Type 1} → statement M
-holds-other-spec = tie.close (tie.spec is-free-requires returns returns-2 mul-p element-copy-out-p returns-3)
+holds-other-spec = tie.close (tie.spec is-free-requires returns returns-2 ticket-at-requires returns-3)

@@ -34,7 +34,7 @@ element-copy-out-r : tie.Need-element-copy-out-r Inv-loop μ-loop
 element-copy-out-r c = search needs
 
 holds-other-requires : tie.Need-holds-other-requires Inv-loop μ-loop
-holds-other-requires c κs = c .before .before .before .pre
+holds-other-requires c κs = search needs
 
 returns : tie.Need-returns Inv-loop μ-loop
 returns c =

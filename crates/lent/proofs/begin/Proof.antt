@@ -1,0 +1,21 @@
+-- `lent::begin` meets its contract: it lends its table to `table::begin`.
+use mathlib.Core.List.{[], _∷_}
+use base.Logic.{id⊢}
+use Rattle.lending.proofs.Thin.{thin-spec}
+use Rattle.lending.proofs.Lend.{lend}
+use Rattle.lent.proofs.Lent.{answered, byte}
+use Rattle.table.proofs.begin as g
+use Rattle.table.proofs.begin.Symbol as g-def
+use Rattle.table.proofs.begin.Met as g-thm
+use Rattle.lent.proofs.begin as f
+use Rattle.lent.proofs.begin.Key as f-key
+use Rattle.lent.proofs.begin.Statement as stated
+use Rattle.lent.proofs.begin.Code as code
+
+pub begin-spec : {M : Type 1} → stated.statement M
+unfolding code.routine
+begin-spec 𝓤 H 𝓜 𝓖 𝓡 =
+    thin-spec (lend answered (byte ∷ [])) 𝓤 H 𝓜 𝓖 𝓡 code.env f-key.name g-def.name (code.unfolded 𝓤 H 𝓜 𝓡)
+    (f.clauses 𝓤 H (𝓖 .A) (𝓜 .mem) (𝓡 .run)) (g.clauses 𝓤 H (𝓖 .A) (𝓜 .mem) (𝓡 .run))
+    (record { ghost = λ κs x y u. u; asks = λ κs x y u. id⊢ 𝓤 _; gives = λ κs x y u r ws. id⊢ 𝓤 _ })
+    g-def.routine code.calls-table·begin (g-thm.met 𝓤 H 𝓜 𝓖 𝓡)

@@ -1,0 +1,21 @@
+-- `lent::lend_decide` meets its contract: it lends its table to `decide`.
+use mathlib.Core.List.{[], _∷_}
+use base.Logic.{id⊢}
+use Rattle.lending.proofs.Thin.{thin-spec}
+use Rattle.lending.proofs.Take.{take}
+use Rattle.lent.proofs.Lent.{answered, number}
+use Rattle.lent.proofs.decide as g
+use Rattle.lent.proofs.decide.Symbol as g-def
+use Rattle.lent.proofs.decide.Met as g-thm
+use Rattle.lent.proofs.lend_decide as f
+use Rattle.lent.proofs.lend_decide.Key as f-key
+use Rattle.lent.proofs.lend_decide.Statement as stated
+use Rattle.lent.proofs.lend_decide.Code as code
+
+pub lend-decide-spec : {M : Type 1} → stated.statement M
+unfolding code.routine
+lend-decide-spec 𝓤 H 𝓜 𝓖 𝓡 =
+    thin-spec (take answered (number ∷ [])) 𝓤 H 𝓜 𝓖 𝓡 code.env f-key.name g-def.name (code.unfolded 𝓤 H 𝓜 𝓡)
+    (f.clauses 𝓤 H (𝓖 .A) (𝓜 .mem) (𝓡 .run)) (g.clauses 𝓤 H (𝓖 .A) (𝓜 .mem) (𝓡 .run))
+    (record { ghost = λ κs x y u. u; asks = λ κs x y u. id⊢ 𝓤 _; gives = λ κs x y u r ws. id⊢ 𝓤 _ })
+    g-def.routine code.calls-lent·decide (g-thm.met 𝓤 H 𝓜 𝓖 𝓡)

@@ -1,0 +1,9 @@
+pub mod DecimalLaws
+pub mod TextLaws
+pub mod SpacedLaws
+pub mod StoreLaws
+pub mod VisibleLaws
+pub mod LineLaws
+pub mod ReadingLaws
+pub mod WritingLaws
+pub mod TrialLaws

@@ -1,0 +1,19 @@
+-- What a caller takes from the writers' contracts: 0 says that there was no room and nothing else, and where 358 bytes are left there is room.
+-- Assumes nothing.
+use mathlib.Core.Path.{_≡_}
+use mathlib.Core.List.{List}
+use Prim.Native.Nat.{ℕ, _+_, _≤_}
+use native.Mathlib.Omega.{arith}
+use lib.ListN.{length}
+use Rattle.endian.specs.Laid.{laid, stored}
+use Rattle.lines.specs.Line.{Line, lineBytes, InRange}
+use Rattle.lines.specs.Writing.{writtenCount}
+use Rattle.lines.proofs.StoreLaws.{written-of-room}
+use Rattle.lines.proofs.LineLaws.{line-some, length-line-le}
+
+module _ (l : List ℕ) (at : ℕ) (x : Line) where
+  pub no-room-of-zero : writtenCount l at (lineBytes x) ≡ 0 → at + length (lineBytes x) ≤ length l → ⊥
+  no-room-of-zero e h = omega (arith, line-some x, written-of-room l (lineBytes x) at h .0)
+
+  pub written-of-358 : InRange x → at + 358 ≤ length l → (length (lineBytes x) ≡ writtenCount l at (lineBytes x)) × (laid l at (lineBytes x) ≡ stored l at (lineBytes x))
+  written-of-358 h g = written-of-room l (lineBytes x) at (omega (arith, length-line-le x h))

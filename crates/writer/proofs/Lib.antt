@@ -1,0 +1,4 @@
+mod BelowLaws
+mod NextLaws
+mod PlacingLaws
+mod WriterLaws
