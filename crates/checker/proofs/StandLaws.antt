@@ -1,13 +1,13 @@
 -- The test of an order, place by place: what is left of it from place p on. Assumes nothing.
 use mathlib.Core.Path.{_≡_, sym, ap, _∙_}
-use mathlib.Core.Bool.{true, false, not, _&&_, and-false, and-true}
+use mathlib.Core.Bool.{true, false, not, _&&_, and-true}
 use mathlib.Core.List.{List, [], _∷_, _++_}
 use Prim.Native.Nat.{ℕ, _+_, _/_, _<_, _≤_}
 use native.Mathlib.Numerals.{add-one}
 use lib.Dec.{eqb}
 use lib.ListN.{length, getD, take, drop, drop-of-length-le}
 use lib.Seq.{drop-cons, take-suc}
-use borrow.Author.Tests.{eq-eqb, ne-eqb}
+use borrow.Author.Tests.{eq-eqb}
 use Rattle.graph.specs.Lists.{anyOf}
 use Rattle.graph.specs.Check.{mayStand, allStand, orderb}
 use Rattle.rows.specs.Rows.{Row, numberOf, rowArrowb, rowsOf}
@@ -42,10 +42,6 @@ module _ (rows : List Row) where
       stand-more e = rw (drop-cons order p 0 h, e, add-one p, take-suc order p 0 h)
 
 module _ (flat order : List ℕ) where
-  pub no-order-of-length : ¬ (length order ≡ length flat / 9) → inOrderb (rowsOf flat) order ≡ false
-  unfolding inOrderb orderb
-  no-order-of-length h = rw (ne-eqb (length order) (length (rowsOf flat)) (λ e. h (e ∙ length-rowsOf flat))) (and-false (allStand rowArrowb numberOf (rowsOf flat) [] order))
-
   -- as many numbers as rows: the places decide
   pub order-of-places : length order ≡ length flat / 9 → inOrderb (rowsOf flat) order ≡ allStand rowArrowb numberOf (rowsOf flat) (take 0 order) (drop 0 order)
   unfolding inOrderb orderb

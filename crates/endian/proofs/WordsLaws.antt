@@ -3,12 +3,14 @@ use mathlib.Core.Path.{_≡_, _∙_, refl, ap}
 use mathlib.Core.List.{List, [], _∷_, _++_}
 use Prim.Native.Nat.{ℕ, zero, suc, _+_, _*_, _/_, _%_, _≤_, _<_}
 use native.Mathlib.Omega.{arith}
-use lib.ListN.{length, getD, drop, set, length-drop}
-use lib.Seq.{paste}
+use lib.ListN.{length, getD, take, drop, set, length-drop}
+use lib.Seq.{paste, take-at}
 use Rattle.endian.specs.Bytes.{words, wordBytes}
 use Rattle.endian.specs.Places.{Below, word32}
+use Rattle.endian.specs.Laid.{stored}
 use Rattle.endian.proofs.BytesLaws.{be32-of-bytes32, bytes32-of-be32}
 use Rattle.endian.proofs.PlacesLaws.{word32-of-drop}
+use Rattle.endian.proofs.LaidLaws.{stored-of-room}
 use Rattle.endian.proofs.PartLaws.{paste-more}
 
 pub words-of-append : (l s : List ℕ) → words (wordBytes l ++ s) ≡ l ++ words s
@@ -69,3 +71,13 @@ getD-words-of-drop s a i h = getD-words (drop a s) i (simp length-drop (omega ar
 pub paste-words-more : (l s : List ℕ) (i : ℕ) → i < length l → 4 * i + 4 ≤ length s →
     set (paste l 0 (words s) i) i (word32 s (4 * i)) ≡ paste l 0 (words s) (i + 1)
 paste-words-more l s i k h = rw (← getD-words s i h) (paste-more l (words s) i k (omega (arith, length-words s)))
+
+-- numbers that were read into the front of a list with room for them stand there
+module _ (l t s : List ℕ) (e : t ≡ stored l 0 (words s)) (h : length s / 4 ≤ length l) where
+  pub words-of-stored : take (length s / 4) t ≡ words s
+  words-of-stored =
+      let r : 0 + length (words s) ≤ length l = omega (arith, length-words s) in
+      rw (e, ← stored-of-room l (words s) 0 r .1, ← length-words s) (take-at (words s) (drop (0 + length (words s)) l) (length (words s)) refl)
+
+  pub length-of-stored : length s / 4 ≡ length (take (length s / 4) t)
+  length-of-stored = rw words-of-stored (sym (length-words s))

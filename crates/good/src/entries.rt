@@ -1,9 +1,9 @@
 // The entries of a row.
 ghost use mathlib.Core.Path.{_≡_};
-ghost use Prim.Native.Nat.{_<_};
+ghost use Prim.Native.Nat.{_<_, _/_};
+ghost use lib.ListN.{length};
 ghost use Rattle.rows.specs.Arrow.{ticketAt};
 ghost use Rattle.rows.specs.Rows.{rowAt};
-ghost use Rattle.good.specs.Scan.{Within};
 
 // The number of row i; past the list it is 0.
 pub fn number_at(rows: &[u32], i: usize) -> u32
@@ -18,7 +18,7 @@ pub fn number_at(rows: &[u32], i: usize) -> u32
 }
 
 pub(crate) fn ticket_at(rows: &[u32], i: usize, s: usize) -> u32
-    requires { ⌜ Within (now rows) i × (s < 8) ⌝ }
+    requires { ⌜ (i < length (now rows) / 9) × (s < 8) ⌝ }
     ensures answer { λ r. ⌜ r ≡ ticketAt (rowAt (now (rows .entry)) i .tickets) s ⌝ }
 {
     rows[9 * i + 1 + s]

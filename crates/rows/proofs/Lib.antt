@@ -6,3 +6,4 @@ pub mod OrderLaws
 pub mod WriteLaws
 pub mod CCallLaws
 pub mod WalkLaws
+pub mod ReplyLaws

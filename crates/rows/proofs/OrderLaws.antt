@@ -1,13 +1,16 @@
 -- The rule for an order against the graph's order, its test, and what the check answers: one of the three ways, and only one.
 -- Assumes nothing.
-use mathlib.Core.Path.{_≡_}
-use mathlib.Core.Bool.{true}
-use mathlib.Core.List.{List, map}
+use mathlib.Core.Path.{_≡_, _∙_}
+use mathlib.Core.Bool.{true, false, and-false}
+use mathlib.Core.List.{List, [], map}
 use mathlib.Core.Logic.{_↔_}
-use Prim.Native.Nat.{ℕ}
+use Prim.Native.Nat.{ℕ, _/_}
+use lib.ListN.{length}
+use borrow.Author.Tests.{ne-eqb}
 use Rattle.graph.specs.Lists.{Once}
 use Rattle.graph.specs.Path.{Cycle, Holds}
 use Rattle.graph.specs.Order.{OrderOf, greedy}
+use Rattle.graph.specs.Check.{allStand, orderb}
 use Rattle.graph.proofs.PathLaws.{cycle-of-weaker}
 use Rattle.graph.proofs.OrderLaws.{no-cycle-of-order}
 use Rattle.graph.proofs.CountLaws.{distinct-of-once}
@@ -19,6 +22,7 @@ use Rattle.rows.specs.Reply.{Reply}
 use Rattle.rows.specs.Reply.Reply.{refused, yes, no}
 use Rattle.rows.specs.Order.{InOrder, Checked, inOrderb, checkResult}
 use Rattle.rows.proofs.ArrowLaws.{arrowb→arrow, arrow→arrowb}
+use Rattle.rows.proofs.RowsLaws.{length-rowsOf}
 use Rattle.rows.proofs.GoodLaws.{goodb→good, good→goodb}
 use Rattle.rows.proofs.JudgedLaws.{judged-of-tests, judged-unique}
 
@@ -67,6 +71,12 @@ module _ (rows : List Row) (d : Once (map numberOf rows)) where
   )
 
 module _ (flat order : List ℕ) where
+  -- as many numbers as rows, or it is no order
+  pub no-order-of-length : ¬ (length order ≡ length flat / 9) → inOrderb (rowsOf flat) order ≡ false
+  unfolding inOrderb orderb
+  no-order-of-length h =
+      rw (ne-eqb (length order) (length (rowsOf flat)) (λ e. h (e ∙ length-rowsOf flat))) (and-false (allStand rowArrowb numberOf (rowsOf flat) [] order))
+
   pub check-result : Checked flat order (checkResult flat order)
   unfolding checkResult
   check-result = judged-of-tests (refused 13) yes no (GoodRows flat) (InOrder (rowsOf flat) order) (goodb flat) (inOrderb (rowsOf flat) order)

@@ -12,8 +12,9 @@ use Rattle.graph.specs.Check.{allStand}
 use Rattle.rows.specs.Rows.{numberOf, rowArrowb, rowsOf}
 use Rattle.rows.specs.Good.{goodb}
 use Rattle.rows.specs.Order.{inOrderb}
+use Rattle.rows.proofs.OrderLaws.{no-order-of-length}
 use Rattle.checker.proofs.AnswerLaws.{check-of-bad, check-of-wrong, check-of-right}
-use Rattle.checker.proofs.StandLaws.{stand-end, stand-no, stand-more, no-order-of-length, order-of-places}
+use Rattle.checker.proofs.StandLaws.{stand-end, stand-no, stand-more, order-of-places}
 use Rattle.checker.proofs.check.Statement.{statement}
 use Rattle.checker.proofs.check.Tie as tie
 

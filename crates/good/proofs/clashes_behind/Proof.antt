@@ -26,9 +26,7 @@ loop-holds : tie.Need-loop-holds Inv-loop μ-loop
 loop-holds c = (search needs, refl, refl)
 
 clashes-requires : tie.Need-clashes-requires Inv-loop μ-loop
-clashes-requires c κs =
-    let p = c .before .before .before .pre in
-    (p, (p .0, search needs))
+clashes-requires c κs = (c .before .before .before .pre, search needs)
 
 returns : tie.Need-returns Inv-loop μ-loop
 returns c =

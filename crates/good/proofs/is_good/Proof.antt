@@ -12,7 +12,7 @@ use Rattle.good.proofs.is_good.Statement.{statement}
 use Rattle.good.proofs.is_good.Tie as tie
 
 abbrev Inv-loop : tie.InvT-loop
-Inv-loop rows n i₀ i = (i ≤ n) × (n ≡ length rows / 9) × (length rows ≤ 288) × (goodb rows ≡ restGood rows i n)
+Inv-loop rows n i₀ i = (i ≤ n) × (n ≡ length rows / 9) × (goodb rows ≡ restGood rows i n)
 
 abbrev μ-loop : tie.MeasureT-loop
 μ-loop rows n i₀ i = n - i
@@ -26,7 +26,7 @@ returns-2 c = sym (bad-of-many (now (c .before .before .before .args .rows)) (om
 loop-holds : tie.Need-loop-holds Inv-loop μ-loop
 loop-holds c =
     let flat = now (c .before .before .before .args .rows) in
-    (search needs, refl, omega arith, good-of-rest flat (omega arith) (omega arith))
+    (search needs, refl, good-of-rest flat (omega arith) (omega arith))
 
 number-at-requires : tie.Need-number-at-requires Inv-loop μ-loop
 number-at-requires c κs = tt
@@ -35,17 +35,17 @@ returns-3 : tie.Need-returns-3 Inv-loop μ-loop
 returns-3 c =
     let l = c .before .before .before in
     let flat = now (l .before .before .before .before .args .rows) in
-    sym (l .loop .inv .3 ∙ rest-of-unnamed flat (l .loop .i) _ (c .before .before .loop-test .taken) (sym (c .before .number-at .ensures) ∙ c .if3 .taken))
+    sym (l .loop .inv .2 ∙ rest-of-unnamed flat (l .loop .i) _ (c .before .before .loop-test .taken) (sym (c .before .number-at .ensures) ∙ c .if3 .taken))
 
 clashes-behind-requires : tie.Need-clashes-behind-requires Inv-loop μ-loop
-clashes-behind-requires c κs = (c .before .before .before .loop .inv .2, search needs)
+clashes-behind-requires c κs = search needs
 
 returns-4 : tie.Need-returns-4 Inv-loop μ-loop
 returns-4 c =
     let e = c .before .before in
     let l = e .before .before .before in
     let flat = now (l .before .before .before .before .args .rows) in
-    sym (l .loop .inv .3 ∙ rest-of-clash flat (l .loop .i) _ (e .before .before .loop-test .taken) (sym (c .before .clashes-behind .ensures) ∙ c .if4 .taken))
+    sym (l .loop .inv .2 ∙ rest-of-clash flat (l .loop .i) _ (e .before .before .loop-test .taken) (sym (c .before .clashes-behind .ensures) ∙ c .if4 .taken))
 
 add-i : tie.Need-add-i Inv-loop μ-loop
 add-i c = search needs
@@ -60,15 +60,14 @@ loop-again c =
     let flat = now (l .before .before .before .before .args .rows) in (
       search needs,
       refl,
-      l .loop .inv .2,
-      l .loop .inv .3 ∙ rest-of-more flat (l .loop .i) _ (e .before .before .loop-test .taken)
+      l .loop .inv .2 ∙ rest-of-more flat (l .loop .i) _ (e .before .before .loop-test .taken)
           (λ z. e .if3 .left (e .before .number-at .ensures ∙ z)) (sym (c .before .clashes-behind .ensures) ∙ c .if4 .left),
     )
 
 returns-5 : tie.Need-returns-5 Inv-loop μ-loop
 returns-5 c =
     let l = c .before in
-    sym (l .loop .inv .3 ∙ rest-end (now (l .before .before .before .before .args .rows)) (l .loop .i) _ (c .loop-test .left))
+    sym (l .loop .inv .2 ∙ rest-end (now (l .before .before .before .before .args .rows)) (l .loop .i) _ (c .loop-test .left))
 
 pub is-good-spec : {M : Type 1} → statement M
 is-good-spec =
