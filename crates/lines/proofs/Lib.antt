@@ -1,5 +1,3 @@
-pub mod DecimalLaws
-pub mod TextLaws
 pub mod SpacedLaws
 pub mod StoreLaws
 pub mod VisibleLaws

@@ -6,7 +6,7 @@ use native.Mathlib.Numerals.{add-one}
 use native.Mathlib.Omega.{arith}
 use lib.ListN.{length, getD, take, drop, length-append, length-take}
 use lib.Seq.{take-suc, take-add}
-use Rattle.lines.specs.Decimal.{decimal}
+use Rattle.decimal.specs.Decimal.{decimal}
 use Rattle.lines.specs.Line.{spaced, textOf}
 
 pub spaced-append : (l m : List ℕ) → spaced (l ++ m) ≡ spaced l ++ spaced m
@@ -17,6 +17,9 @@ spaced-append (n ∷ l) m = rw (spaced-append l m) (ap (λ (r : List ℕ). 32 �
 pub spaced-nil : spaced [] ≡ []
 unfolding spaced
 spaced-nil = refl
+
+pub length-spaced-nil : length (spaced []) ≡ 0
+length-spaced-nil = rw spaced-nil
 
 pub spaced-one : (n : ℕ) → spaced (n ∷ []) ≡ 32 ∷ decimal n
 unfolding spaced

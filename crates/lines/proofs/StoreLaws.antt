@@ -1,40 +1,24 @@
--- What is stored piece by piece is laid as a whole; and what a writer answers and leaves, with room and without. Assumes nothing.
-use mathlib.Core.Path.{_≡_, _∙_, sym, ap}
+-- A space and a number, and a word, its numbers and the newline, stored one behind the other, are laid as one. Assumes nothing.
+use mathlib.Core.Path.{_≡_, _∙_, sym}
 use mathlib.Core.List.{List, [], _∷_, _++_, append-assoc}
-use Prim.Native.Nat.{ℕ, _+_, _<_, _≤_}
-use native.Mathlib.Nat.{add-zero, add-assoc}
-use native.Mathlib.Numerals.{add-one}
+use Prim.Native.Nat.{ℕ, _+_, _≤_}
 use native.Mathlib.Omega.{arith}
-use lib.ListN.{length, set, take-append-drop, length-append}
-use lib.Seq.{set-split}
-use borrow.Author.Tests.{le-leb, lt-leb}
+use lib.ListN.{length, set, length-set, length-append}
 use Rattle.endian.specs.Laid.{laid, stored}
-use Rattle.endian.proofs.LaidLaws.{length-laid, laid-of-laid, stored-of-room, stored-of-no-room}
+use Rattle.endian.proofs.LaidLaws.{laid-of-laid, stored-of-room}
+use Rattle.decimal.specs.Decimal.{decimal}
+use Rattle.decimal.specs.Written.{writtenCount}
+use Rattle.decimal.proofs.WrittenLaws.{laid-of-set, laid-of-set-behind, written-of-room}
 use Rattle.lines.specs.Line.{spaced, textOf}
-use Rattle.lines.specs.Writing.{writtenCount}
-use Rattle.lines.proofs.SpacedLaws.{length-text}
+use Rattle.lines.proofs.SpacedLaws.{spaced-one, length-spaced-one, length-text}
 
--- nothing, one byte, and one byte right behind others
-pub laid-of-nil : (l : List ℕ) (at : ℕ) → l ≡ laid l at []
-laid-of-nil l at = rw (add-zero at) (sym (take-append-drop at l))
+pub written-of-space : (l : List ℕ) (at x : ℕ) → at + length (spaced (x ∷ [])) ≤ length l →
+    (writtenCount (set l at 32) (at + 1) (decimal x) ≡ length (decimal x)) × (stored (set l at 32) (at + 1) (decimal x) ≡ laid l at (spaced (x ∷ [])))
+written-of-space l at x h =
+    let e = length-spaced-one x in
+    let r = written-of-room (set l at 32) (decimal x) (at + 1) (simp length-set (omega arith)) in
+    (sym (r .0), sym (r .1) ∙ rw (laid-of-set l at 32 (omega arith), spaced-one x) (laid-of-laid l (32 ∷ []) at (omega arith) (decimal x)))
 
-pub laid-of-set : (l : List ℕ) (at b : ℕ) → at < length l → set l at b ≡ laid l at (b ∷ [])
-laid-of-set l at b h = rw (add-one at) (set-split l at b h)
-
-pub laid-of-set-behind : (l vs : List ℕ) (at b : ℕ) → at + length vs < length l → set (laid l at vs) (at + length vs) b ≡ laid l at (vs ++ (b ∷ []))
-laid-of-set-behind l vs at b h =
-    let k = length-laid l vs at (omega arith) in
-    laid-of-set (laid l at vs) (at + length vs) b (omega arith) ∙ laid-of-laid l vs at (omega arith) (b ∷ [])
-
--- the answer and the buffer of a writer of vs
-module _ (l vs : List ℕ) (at : ℕ) where
-  pub written-of-room : at + length vs ≤ length l → (length vs ≡ writtenCount l at vs) × (laid l at vs ≡ stored l at vs)
-  written-of-room h = (rw (le-leb (at + length vs) (length l) h), stored-of-room l vs at h .1)
-
-  pub written-of-no-room : length l < at + length vs → (0 ≡ writtenCount l at vs) × (l ≡ stored l at vs)
-  written-of-no-room h = (rw (lt-leb (at + length vs) (length l) h), stored-of-no-room l vs at h .1)
-
--- a word, its numbers and the newline, one behind the other
 pub laid-of-text : (l w ns : List ℕ) (at : ℕ) → at + length (textOf w ns) ≤ length l →
     set (laid (stored l at w) (at + length w) (spaced ns)) (at + length w + length (spaced ns)) 10 ≡ laid l at (textOf w ns)
 laid-of-text l w ns at h =

@@ -3,7 +3,7 @@ use mathlib.Core.Path.{_≡_, refl}
 use mathlib.Core.List.{List, map}
 use Prim.Native.Nat.{ℕ}
 use lib.ListN.{length}
-use Rattle.lines.specs.Decimal.{decimal, decimalBy}
+use Rattle.decimal.specs.Decimal.{decimal, decimalBy}
 use Rattle.lines.specs.Line.{spaced, lineBytes}
 use Rattle.lines.specs.Trials.{Trial, trials, longest}
 

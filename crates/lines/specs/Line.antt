@@ -3,7 +3,7 @@ use mathlib.Core.List.{List, [], _∷_, _++_}
 use Prim.Native.Nat.{ℕ, _<_, _≤_, _^_}
 use lib.ListN.{length}
 use Rattle.endian.specs.Places.{Below}
-use Rattle.lines.specs.Decimal.{decimal}
+use Rattle.decimal.specs.Decimal.{decimal}
 
 -- n is a transaction's number, c a count, r a refusal number
 pub data Line : Type 0 where

@@ -1,14 +1,14 @@
-// The service's answers as lines of text, written into a lent buffer. Rests on `endian` and on specs/Line.antt.
-mod decimal;
+// The service's answers as lines of text, written into a lent buffer. Rests on `endian`, `decimal` and on specs/Line.antt.
 
 ghost use mathlib.Core.Path.{_≡_};
 ghost use mathlib.Core.List.{[], _∷_};
 ghost use Prim.Native.Nat.{_+_, _-_, _≤_, min};
 ghost use lib.ListN.{length, take};
 ghost use Rattle.endian.specs.Laid.{laid, stored};
-ghost use Rattle.lines.specs.Decimal.{decimal};
+ghost use Rattle.decimal.specs.Decimal.{decimal};
 ghost use Rattle.lines.specs.Line.{spaced, textOf, lineBytes, order};
-ghost use Rattle.lines.specs.Writing.{lineOf, writtenCount};
+ghost use Rattle.lines.specs.Writing.{lineOf};
+ghost use Rattle.decimal.specs.Written.{writtenCount};
 
 // Every answer but the order.
 pub enum Words {
@@ -53,7 +53,8 @@ fn put_spaced(x: u32, out: &mut [u8], at: usize) -> usize
     ensures buffer { λ _. ⌜ now (out .exit) ≡ laid (now (out .entry)) at (spaced (x ∷ [])) ⌝ }
 {
     out[at] = 32;
-    decimal::put_decimal(x, out, at + 1)
+    let digits = decimal::put_decimal(x, out, at + 1);
+    at + 1 + digits
 }
 
 // The first `n` numbers, each behind a space; answers where they end.
@@ -64,7 +65,7 @@ fn put_numbers(numbers: &[u32], n: usize, out: &mut [u8], place: usize) -> usize
     ensures buffer { λ _. ⌜ now (out .exit) ≡ laid (now (out .entry)) place (spaced (take n (now (numbers .entry)))) ⌝ }
 {
     let mut at = place;
-    let mut i: usize = 0;
+    let mut i = 0;
     while i < n {
         at = put_spaced(numbers[i], out, at);
         i += 1;

@@ -5,8 +5,8 @@ use native.Mathlib.Omega.{arith}
 use lib.ListN.{getD, length, take}
 use denote.Ref.{now}
 use Rattle.lines.specs.Line.{spaced}
-use Rattle.lines.proofs.DecimalLaws.{length-decimal-32}
-use Rattle.lines.proofs.SpacedLaws.{spaced-nil, length-spaced-more}
+use Rattle.decimal.proofs.DecimalLaws.{length-decimal-32}
+use Rattle.lines.proofs.SpacedLaws.{length-spaced-nil, length-spaced-more}
 use Rattle.lines.proofs.left_behind.Statement.{statement}
 use Rattle.lines.proofs.left_behind.Tie as tie
 
@@ -17,7 +17,7 @@ abbrev μ-loop : tie.MeasureT-loop
 μ-loop numbers n room left₀ i₀ left i = n - i
 
 loop-holds : tie.Need-loop-holds Inv-loop μ-loop
-loop-holds c = (omega arith, c .before .pre, rw spaced-nil (omega arith))
+loop-holds c = (omega arith, c .before .pre, omega (arith, length-spaced-nil))
 
 mul-digit-count : tie.Need-mul-digit-count Inv-loop μ-loop
 mul-digit-count c = omega arith

@@ -8,8 +8,8 @@ use denote.Ref.{now}
 use Rattle.endian.specs.Laid.{laid}
 use Rattle.endian.proofs.LaidLaws.{laid-of-laid}
 use Rattle.lines.specs.Line.{spaced}
-use Rattle.lines.proofs.SpacedLaws.{spaced-nil, spaced-take-more, length-spaced-more, length-spaced-take, length-spaced-one}
-use Rattle.lines.proofs.StoreLaws.{laid-of-nil}
+use Rattle.lines.proofs.SpacedLaws.{spaced-nil, length-spaced-nil, spaced-take-more, length-spaced-more, length-spaced-take, length-spaced-one}
+use Rattle.decimal.proofs.WrittenLaws.{laid-of-nil}
 use Rattle.lines.proofs.put_numbers.Statement.{statement}
 use Rattle.lines.proofs.put_numbers.Tie as tie
 
@@ -23,7 +23,7 @@ loop-holds : tie.Need-loop-holds Inv-loop μ-loop
 loop-holds c =
     let s = c .before .before in
     let a = s .args in
-    (omega arith, s .pre .0, s .pre .1, rw spaced-nil (omega arith), refl, rw spaced-nil (laid-of-nil (now (a .out)) (a .place)))
+    (omega arith, s .pre .0, s .pre .1, omega (arith, length-spaced-nil), refl, rw spaced-nil (laid-of-nil (now (a .out)) (a .place)))
 
 mul-put-spaced : tie.Need-mul-put-spaced Inv-loop μ-loop
 mul-put-spaced c = omega arith

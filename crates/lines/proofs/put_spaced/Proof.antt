@@ -1,14 +1,10 @@
 -- `lines::put_spaced` meets its contract: the digits stand right behind the space. Assumes nothing.
 use mathlib.Core.Path.{_∙_}
-use mathlib.Core.List.{[], _∷_}
 use native.Mathlib.Omega.{arith}
 use lib.ListN.{length-set}
-use borrow.Author.Needs.{needs}
 use denote.Ref.{now}
-use Rattle.endian.proofs.LaidLaws.{laid-of-laid}
-use Rattle.lines.specs.Decimal.{decimal}
-use Rattle.lines.proofs.SpacedLaws.{spaced-one, length-spaced-one}
-use Rattle.lines.proofs.StoreLaws.{laid-of-set}
+use Rattle.lines.proofs.SpacedLaws.{length-spaced-one}
+use Rattle.lines.proofs.StoreLaws.{written-of-space}
 use Rattle.lines.proofs.put_spaced.Statement.{statement}
 use Rattle.lines.proofs.put_spaced.Tie as tie
 
@@ -16,24 +12,42 @@ slice-write-out : tie.Need-slice-write-out
 slice-write-out c = omega (arith, length-spaced-one (c .before .args .x))
 
 add-put-decimal : tie.Need-add-put-decimal
-add-put-decimal c = search needs
+add-put-decimal c = omega arith
 
 put-decimal-requires : tie.Need-put-decimal-requires
-put-decimal-requires c κs = simp length-set (omega (arith, length-spaced-one (c .before .before .args .x)))
+put-decimal-requires c κs = tt
+
+add-result : tie.Need-add-result
+add-result c = omega arith
+
+add-result-2 : tie.Need-add-result-2
+add-result-2 c =
+    let p = c .before .before in
+    let s = p .before .before .before in
+    let a = s .args in
+    let w = p .put-decimal .ensures .0 ∙ written-of-space (now (a .out)) (a .at) (a .x) (s .pre) .0 in
+    omega (arith, length-spaced-one (a .x))
 
 same-length : tie.Need-same-length
 same-length c = c .before .before .put-decimal .kept .1 .0 ∙ simp length-set
 
 returns : tie.Need-returns
 returns c =
-    let s = c .before .before .before .before .before in
+    let p = c .before .before in
+    let s = p .before .before .before in
     let a = s .args in
-    let e = length-spaced-one (a .x) in
-    let q = c .before .before .put-decimal .ensures in (
-      omega (arith, q .0),
-      q .1 ∙ rw (laid-of-set (now (a .out)) (a .at) 32 (omega arith), spaced-one (a .x)) (laid-of-laid (now (a .out)) (32 ∷ []) (a .at) (omega arith) (decimal (a .x))),
-    )
+    let r = written-of-space (now (a .out)) (a .at) (a .x) (s .pre) in
+    let w = p .put-decimal .ensures .0 ∙ r .0 in
+    (omega (arith, length-spaced-one (a .x)), p .put-decimal .ensures .1 ∙ r .1)
 
 pub put-spaced-spec : {M : Type 1} → statement M
 put-spaced-spec =
-    tie.close (tie.spec slice-write-out add-put-decimal put-decimal-requires same-length returns)
+    tie.close
+    (tie.spec
+    slice-write-out
+    add-put-decimal
+    put-decimal-requires
+    add-result
+    add-result-2
+    same-length
+    returns)

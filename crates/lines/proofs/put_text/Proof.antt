@@ -8,7 +8,8 @@ use borrow.Author.Needs.{needs}
 use denote.Ref.{now}
 use Rattle.lines.specs.Line.{textOf}
 use Rattle.lines.proofs.SpacedLaws.{length-text}
-use Rattle.lines.proofs.StoreLaws.{written-of-room, written-of-no-room, laid-of-text}
+use Rattle.decimal.proofs.WrittenLaws.{written-of-room, written-of-no-room}
+use Rattle.lines.proofs.StoreLaws.{laid-of-text}
 use Rattle.lines.proofs.put_text.Statement.{statement}
 use Rattle.lines.proofs.put_text.Tie as tie
 

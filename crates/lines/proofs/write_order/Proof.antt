@@ -1,5 +1,6 @@
 -- `lines::write_order` meets its contract: as many numbers are taken as there are, and `count` of them at most. Assumes nothing.
 use mathlib.Core.Path.{_≡_}
+use native.Mathlib.Omega.{arith}
 use lib.ListN.{take}
 use borrow.Author.Needs.{needs}
 use denote.Ref.{now}
@@ -14,7 +15,7 @@ slice-aggregate-put-text : tie.Need-slice-aggregate-put-text
 slice-aggregate-put-text c = search needs
 
 put-text-requires : tie.Need-put-text-requires
-put-text-requires c κs = search needs
+put-text-requires c κs = omega arith
 
 same-length : tie.Need-same-length
 same-length c = search needs

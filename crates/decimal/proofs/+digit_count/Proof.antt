@@ -1,15 +1,14 @@
--- `lines::decimal::digit_count` meets its contract, as the number falls from call to call. Assumes nothing.
-use mathlib.Core.Path.{sym}
+-- `decimal::digit_count` meets its contract, as the number falls from call to call. Assumes nothing.
 use Prim.Native.Nat.{ℕ, _/_, _<_}
 use native.Mathlib.Omega.{arith}
 use borrow.Fn.Kinds.{In}
 use borrow.Fn.PlainCycle.{Measures, is, falls, and}
-use Rattle.lines.proofs.DecimalLaws.{length-decimal-small, length-decimal-more, length-decimal-32}
-use Rattle.lines.proofs.decimal.+digit_count.{statement}
-use Rattle.lines.proofs.decimal.+digit_count.Tie.{close}
-use Rattle.lines.proofs.decimal.digit_count.Reads as digit-count
-use Rattle.lines.proofs.decimal.digit_count.Kinds as digit-count-kinds
-use Rattle.lines.proofs.decimal.+digit_count.Lts-digit_count as digit-count-lts
+use Rattle.decimal.proofs.DecimalLaws.{length-decimal-small, length-decimal-more, length-decimal-32}
+use Rattle.decimal.proofs.+digit_count.{statement}
+use Rattle.decimal.proofs.+digit_count.Tie.{close}
+use Rattle.decimal.proofs.digit_count.Reads as digit-count
+use Rattle.decimal.proofs.digit_count.Kinds as digit-count-kinds
+use Rattle.decimal.proofs.+digit_count.Lts-digit_count as digit-count-lts
 
 abbrev μ-digit-count : Measures 0 digit-count-kinds.ps ℕ
 μ-digit-count κs a = a .0
@@ -40,13 +39,13 @@ digit-count-returns : (t : ℕ) → digit-count-lts.Need-returns (
   digit-count-below t,
   digit-count.Post,
 ) (digit-count-at t) digit-count.Post
-digit-count-returns t c = sym (length-decimal-small (c .before .args .x) (c .if1 .taken))
+digit-count-returns t c = omega (arith, length-decimal-small (c .before .args .x) (omega arith))
 
 digit-count-returns-2 : (t : ℕ) → digit-count-lts.Need-returns-2 (
   digit-count-below t,
   digit-count.Post,
 ) (digit-count-at t) digit-count.Post
-digit-count-returns-2 t c = omega (arith, c .digit-count .ensures, length-decimal-more (c .before .before .args .x) (c .before .if1 .left))
+digit-count-returns-2 t c = omega (arith, c .digit-count .ensures, length-decimal-more (c .before .before .args .x) (omega arith))
 
 pub +digit-count-spec : {M : Type 1} → statement M
 +digit-count-spec = close μ-digit-count λ t. digit-count-lts.spec (

@@ -9,7 +9,7 @@ use native.Mathlib.Omega.{arith}
 use lib.Dec.{ltb}
 use lib.ListN.{length, getD, length-append, List·getD-append}
 use borrow.Author.Tests.{lt-ltb, le-ltb, ltb-true, ltb-false}
-use Rattle.lines.specs.Decimal.{digitByte, decimalBy, decimal, valueBehind, Digits, DecimalOf}
+use Rattle.decimal.specs.Decimal.{digitByte, decimalBy, decimal, valueBehind, Digits, DecimalOf}
 
 decimalBy-small : (k n : ℕ) → n < 10 → decimalBy (suc k) n ≡ digitByte n ∷ []
 unfolding decimalBy
