@@ -14,13 +14,13 @@ use Rattle.lines.proofs.put_text.Statement.{statement}
 use Rattle.lines.proofs.put_text.Tie as tie
 
 less-requires : tie.Need-less-requires
-less-requires c κs = search needs
+less-requires c κs = tt
 
 less-requires-2 : tie.Need-less-requires-2
-less-requires-2 c κs = search needs
+less-requires-2 c κs = tt
 
 left-behind-requires : tie.Need-left-behind-requires
-left-behind-requires c κs = search needs
+left-behind-requires c κs = c .before .before .before .before .before .pre
 
 returns : tie.Need-returns
 returns c =
@@ -30,22 +30,22 @@ returns c =
     written-of-no-room (now (a .out)) (textOf (now (a .word)) ns) (a .place) (omega arith)
 
 put-requires : tie.Need-put-requires
-put-requires c κs = search needs
+put-requires c κs = tt
 
 add-put-numbers : tie.Need-add-put-numbers
-add-put-numbers c = search needs
+add-put-numbers c = omega arith
 
 put-numbers-requires : tie.Need-put-numbers-requires
 put-numbers-requires c κs = search needs
 
 slice-write-out : tie.Need-slice-write-out
-slice-write-out c = search needs
+slice-write-out c = omega arith
 
 add-result : tie.Need-add-result
-add-result c = search needs
+add-result c = omega arith
 
 sub-result : tie.Need-sub-result
-sub-result c = search needs
+sub-result c = omega arith
 
 same-length : tie.Need-same-length
 same-length c =
