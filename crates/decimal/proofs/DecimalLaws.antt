@@ -1,10 +1,8 @@
--- A number and its digits determine each other: `decimal n` is a text of n (`decimal-is-decimal`) and the only one (`decimal-of-text`).
--- All goes by one induction, from n / 10 to n. Assumes nothing.
-use mathlib.Core.Path.{_≡_, _∙_, refl, sym, ap}
+-- `decimal n` is a text of n, and no other number has it. All goes by one induction, from n / 10 to n. Assumes nothing.
+use mathlib.Core.Path.{_≡_, _∙_, refl, sym}
 use mathlib.Core.Bool.{Bool, true, false}
 use mathlib.Core.List.{List, [], _∷_, _++_}
 use Prim.Native.Nat.{ℕ, zero, suc, _+_, _-_, _*_, _/_, _%_, _^_, _<_, _≤_}
-use native.Mathlib.Nat.{div-add-mod'}
 use native.Mathlib.Omega.{arith}
 use lib.Dec.{ltb}
 use lib.ListN.{length, getD, length-append, List·getD-append}

@@ -4,8 +4,8 @@ use mathlib.Core.List.{List, [], _∷_, _++_}
 use Prim.Native.Nat.{ℕ, zero, suc, _+_, _-_, _*_, _/_, _%_, _<_, _≤_}
 use native.Mathlib.Omega.{arith}
 use lib.ListN.{length, getD, length-append}
-use Rattle.decimal.specs.Decimal.{digitByte, decimal, valueBehind, Digits, DecimalOf}
-use Rattle.decimal.proofs.DecimalLaws.{decimal-of-small, decimal-of-more, value-append, decimal-is-decimal}
+use Rattle.decimal.specs.Decimal.{decimal, valueBehind, Digits, DecimalOf}
+use Rattle.decimal.proofs.DecimalLaws.{decimal-of-small, decimal-of-more, value-append}
 
 last-digit : (b : ℕ) (l : List ℕ) → (m : List ℕ) × (d : ℕ) × (b ∷ l ≡ m ++ (d ∷ []))
 last-digit b [] = ([], b, refl)

@@ -19,7 +19,8 @@ decimalBy (suc k) n = elim (ltb n 10) [ true ↦ digitByte n ∷ [] | false ↦ 
 unfoldable pub decimal : ℕ → List ℕ
 decimal n = decimalBy (suc n) n
 
--- What that means, without a computation: l is a text of n. proofs/DecimalLaws.antt shows that `decimal n` is one, and the only one.
+-- What that means, without a computation: l is a text of n. `decimal n` is one (proofs/DecimalLaws.antt), and the only one
+-- (proofs/TextLaws.antt).
 
 -- the number that the digits l stand for, behind others that stand for a
 abbrev pub valueBehind : ℕ → List ℕ → ℕ

@@ -1,7 +1,6 @@
 -- The worked lines are as written out, and there is a line of 358 bytes. Computed. Assumes nothing.
 use mathlib.Core.Path.{_≡_, refl}
-use mathlib.Core.List.{List, map}
-use Prim.Native.Nat.{ℕ}
+use mathlib.Core.List.{map}
 use lib.ListN.{length}
 use Rattle.decimal.specs.Decimal.{decimal, decimalBy}
 use Rattle.lines.specs.Line.{spaced, lineBytes}

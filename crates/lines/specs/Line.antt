@@ -1,6 +1,6 @@
--- The lines that the service answers with, and the bytes of each. RULES, Lines. Rests on specs/Decimal.antt.
+-- The lines that the service answers with, and the bytes of each. RULES, The service. Rests on `decimal`.
 use mathlib.Core.List.{List, [], _∷_, _++_}
-use Prim.Native.Nat.{ℕ, _<_, _≤_, _^_}
+use Prim.Native.Nat.{ℕ, _≤_, _^_}
 use lib.ListN.{length}
 use Rattle.endian.specs.Places.{Below}
 use Rattle.decimal.specs.Decimal.{decimal}

@@ -1,14 +1,12 @@
 // The service's answers as lines of text, written into a lent buffer. Rests on `endian`, `decimal` and on specs/Line.antt.
-
 ghost use mathlib.Core.Path.{_≡_};
 ghost use mathlib.Core.List.{[], _∷_};
 ghost use Prim.Native.Nat.{_+_, _-_, _≤_, min};
 ghost use lib.ListN.{length, take};
 ghost use Rattle.endian.specs.Laid.{laid, stored};
-ghost use Rattle.decimal.specs.Decimal.{decimal};
+ghost use Rattle.decimal.specs.Written.{writtenCount};
 ghost use Rattle.lines.specs.Line.{spaced, textOf, lineBytes, order};
 ghost use Rattle.lines.specs.Writing.{lineOf};
-ghost use Rattle.decimal.specs.Written.{writtenCount};
 
 // Every answer but the order.
 pub enum Words {
