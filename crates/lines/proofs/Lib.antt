@@ -1,5 +1,3 @@
-pub mod SpacedLaws
-pub mod StoreLaws
 pub mod VisibleLaws
 pub mod LineLaws
 pub mod ReadingLaws

@@ -3,7 +3,8 @@ use mathlib.Core.Path.{_≡_, refl}
 use mathlib.Core.List.{map}
 use lib.ListN.{length}
 use Rattle.decimal.specs.Decimal.{decimal, decimalBy}
-use Rattle.lines.specs.Line.{spaced, lineBytes}
+use Rattle.text.specs.Text.{spaced}
+use Rattle.lines.specs.Line.{lineBytes}
 use Rattle.lines.specs.Trials.{Trial, trials, longest}
 
 pub trials-hold : map (λ (t : Trial). lineBytes (t .line)) trials ≡ map (λ (t : Trial). t .bytes) trials

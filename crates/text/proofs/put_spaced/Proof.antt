@@ -1,12 +1,12 @@
--- `lines::put_spaced` meets its contract: the digits stand right behind the space. Assumes nothing.
+-- `text::put_spaced` meets its contract: the digits stand right behind the space. Assumes nothing.
 use mathlib.Core.Path.{_∙_}
 use native.Mathlib.Omega.{arith}
 use lib.ListN.{length-set}
 use denote.Ref.{now}
-use Rattle.lines.proofs.SpacedLaws.{length-spaced-one}
-use Rattle.lines.proofs.StoreLaws.{written-of-space}
-use Rattle.lines.proofs.put_spaced.Statement.{statement}
-use Rattle.lines.proofs.put_spaced.Tie as tie
+use Rattle.text.proofs.SpacedLaws.{length-spaced-one}
+use Rattle.text.proofs.StoreLaws.{written-of-space}
+use Rattle.text.proofs.put_spaced.Statement.{statement}
+use Rattle.text.proofs.put_spaced.Tie as tie
 
 slice-write-out : tie.Need-slice-write-out
 slice-write-out c = omega (arith, length-spaced-one (c .before .args .x))

@@ -1,4 +1,4 @@
--- `lines::put_text` meets its contract: there is room exactly if something is left behind the numbers; then word, numbers and newline are
+-- `text::put_first` meets its contract: there is room exactly if something is left behind the numbers; then word, numbers and newline are
 -- laid one behind the other. Assumes nothing.
 use mathlib.Core.Path.{_∙_}
 use Prim.Native.Nat.{_+_, _≤_}
@@ -6,12 +6,12 @@ use native.Mathlib.Omega.{arith}
 use lib.ListN.{length, take, length-set}
 use borrow.Author.Needs.{needs}
 use denote.Ref.{now}
-use Rattle.lines.specs.Line.{textOf}
-use Rattle.lines.proofs.SpacedLaws.{length-text}
+use Rattle.text.specs.Text.{textOf}
+use Rattle.text.proofs.SpacedLaws.{length-text}
 use Rattle.decimal.proofs.WrittenLaws.{written-of-room, written-of-no-room}
-use Rattle.lines.proofs.StoreLaws.{laid-of-text}
-use Rattle.lines.proofs.put_text.Statement.{statement}
-use Rattle.lines.proofs.put_text.Tie as tie
+use Rattle.text.proofs.StoreLaws.{laid-of-text}
+use Rattle.text.proofs.put_first.Statement.{statement}
+use Rattle.text.proofs.put_first.Tie as tie
 
 less-requires : tie.Need-less-requires
 less-requires c κs = tt
@@ -68,8 +68,8 @@ returns-2 c =
       rw (p .put-numbers .ensures .1, p .put-numbers .ensures .0, q .put .ensures .1) (laid-of-text l w ns (a .place) fits) ∙ r .1,
     )
 
-pub put-text-spec : {M : Type 1} → statement M
-put-text-spec =
+pub put-first-spec : {M : Type 1} → statement M
+put-first-spec =
     tie.close
     (tie.spec
     less-requires

@@ -9,8 +9,8 @@ use Rattle.endian.proofs.LaidLaws.{laid-of-laid, stored-of-room}
 use Rattle.decimal.specs.Decimal.{decimal}
 use Rattle.decimal.specs.Written.{writtenCount}
 use Rattle.decimal.proofs.WrittenLaws.{laid-of-set, laid-of-set-behind, written-of-room}
-use Rattle.lines.specs.Line.{spaced, textOf}
-use Rattle.lines.proofs.SpacedLaws.{spaced-one, length-spaced-one, length-text}
+use Rattle.text.specs.Text.{spaced, textOf}
+use Rattle.text.proofs.SpacedLaws.{spaced-one, length-spaced-one, length-text}
 
 pub written-of-space : (l : List ℕ) (at x : ℕ) → at + length (spaced (x ∷ [])) ≤ length l →
     (writtenCount (set l at 32) (at + 1) (decimal x) ≡ length (decimal x)) × (stored (set l at 32) (at + 1) (decimal x) ≡ laid l at (spaced (x ∷ [])))

@@ -1,4 +1,4 @@
--- `lines::put_numbers` meets its contract: after i turns the first i numbers are laid. Assumes nothing.
+-- `text::put_numbers` meets its contract: after i turns the first i numbers are laid. Assumes nothing.
 use mathlib.Core.List.{[], _∷_}
 use mathlib.Core.Path.{_≡_, _∙_, refl}
 use Prim.Native.Nat.{_+_, _-_, _≤_}
@@ -7,11 +7,11 @@ use lib.ListN.{getD, length, take}
 use denote.Ref.{now}
 use Rattle.endian.specs.Laid.{laid}
 use Rattle.endian.proofs.LaidLaws.{laid-of-laid}
-use Rattle.lines.specs.Line.{spaced}
-use Rattle.lines.proofs.SpacedLaws.{spaced-nil, length-spaced-nil, spaced-take-more, length-spaced-more, length-spaced-take, length-spaced-one}
+use Rattle.text.specs.Text.{spaced}
+use Rattle.text.proofs.SpacedLaws.{spaced-nil, length-spaced-nil, spaced-take-more, length-spaced-more, length-spaced-take, length-spaced-one}
 use Rattle.decimal.proofs.WrittenLaws.{laid-of-nil}
-use Rattle.lines.proofs.put_numbers.Statement.{statement}
-use Rattle.lines.proofs.put_numbers.Tie as tie
+use Rattle.text.proofs.put_numbers.Statement.{statement}
+use Rattle.text.proofs.put_numbers.Tie as tie
 
 abbrev Inv-loop : tie.InvT-loop
 Inv-loop numbers n out₀ place at₀ i₀ out at i = (i ≤ n) × (n ≤ length numbers) × (place + length (spaced (take n numbers)) ≤ length out₀) × (at ≡ place + length (spaced (take i numbers))) × (length out ≡ length out₀) × (out ≡ laid out₀ place (spaced (take i numbers)))

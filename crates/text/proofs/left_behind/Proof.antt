@@ -1,14 +1,14 @@
--- `lines::left_behind` meets its contract: after i turns the room is less by the first i numbers. Assumes nothing.
+-- `text::left_behind` meets its contract: after i turns the room is less by the first i numbers. Assumes nothing.
 use mathlib.Core.Path.{_≡_}
 use Prim.Native.Nat.{_-_, _≤_}
 use native.Mathlib.Omega.{arith}
 use lib.ListN.{getD, length, take}
 use denote.Ref.{now}
-use Rattle.lines.specs.Line.{spaced}
+use Rattle.text.specs.Text.{spaced}
 use Rattle.decimal.proofs.DecimalLaws.{length-decimal-32}
-use Rattle.lines.proofs.SpacedLaws.{length-spaced-nil, length-spaced-more}
-use Rattle.lines.proofs.left_behind.Statement.{statement}
-use Rattle.lines.proofs.left_behind.Tie as tie
+use Rattle.text.proofs.SpacedLaws.{length-spaced-nil, length-spaced-more}
+use Rattle.text.proofs.left_behind.Statement.{statement}
+use Rattle.text.proofs.left_behind.Tie as tie
 
 abbrev Inv-loop : tie.InvT-loop
 Inv-loop numbers n room left₀ i₀ left i = (i ≤ n) × (n ≤ length numbers) × (left ≡ room - length (spaced (take i numbers)))

@@ -7,7 +7,7 @@ use native.Mathlib.Omega.{arith}
 use lib.ListN.{length, getD, take, drop, length-append, length-take}
 use lib.Seq.{take-suc, take-add}
 use Rattle.decimal.specs.Decimal.{decimal}
-use Rattle.lines.specs.Line.{spaced, textOf}
+use Rattle.text.specs.Text.{spaced, textOf}
 
 pub spaced-append : (l m : List ℕ) → spaced (l ++ m) ≡ spaced l ++ spaced m
 unfolding spaced
