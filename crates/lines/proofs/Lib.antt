@@ -1,7 +1,3 @@
-pub mod DecimalLaws
-pub mod TextLaws
-pub mod SpacedLaws
-pub mod StoreLaws
 pub mod VisibleLaws
 pub mod LineLaws
 pub mod ReadingLaws

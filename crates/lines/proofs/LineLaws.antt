@@ -5,11 +5,12 @@ use Prim.Native.Nat.{ℕ, zero, _+_, _*_, _^_, _<_, _≤_}
 use native.Mathlib.Omega.{arith}
 use lib.ListN.{length, length-append}
 use Rattle.endian.specs.Places.{Below}
-use Rattle.lines.specs.Decimal.{decimal}
-use Rattle.lines.specs.Line.{Line, ok, begin, commit, cycle, swept, good, bad, order, refused, wordOf, numbersOf, spaced, lineBytes, InRange}
+use Rattle.decimal.specs.Decimal.{decimal}
+use Rattle.text.specs.Text.{spaced}
+use Rattle.lines.specs.Line.{Line, ok, begin, commit, cycle, swept, good, bad, order, refused, wordOf, numbersOf, lineBytes, InRange}
 use Rattle.lines.specs.Reading.{Visible, Lacks, lastOf, OneLine}
-use Rattle.lines.proofs.DecimalLaws.{length-decimal-pos, length-decimal-32}
-use Rattle.lines.proofs.SpacedLaws.{length-text}
+use Rattle.decimal.proofs.DecimalLaws.{length-decimal-pos, length-decimal-32}
+use Rattle.text.proofs.SpacedLaws.{length-text}
 use Rattle.lines.proofs.VisibleLaws.{visible-decimal, word-some, visible-word}
 
 -- one newline, no trailing space

@@ -7,11 +7,12 @@ use Prim.Native.Nat.{ℕ, _+_, _*_, _≤_}
 use native.Mathlib.Omega.{arith}
 use lib.Dec.{eqb}
 use lib.ListN.{length, getD, length-append}
-use Rattle.lines.specs.Decimal.{decimal}
-use Rattle.lines.specs.Line.{Line, ok, begin, commit, cycle, swept, good, bad, order, refused, wordOf, numbersOf, spaced, lineBytes}
+use Rattle.decimal.specs.Decimal.{decimal}
+use Rattle.text.specs.Text.{spaced}
+use Rattle.lines.specs.Line.{Line, ok, begin, commit, cycle, swept, good, bad, order, refused, wordOf, numbersOf, lineBytes}
 use Rattle.lines.specs.Reading.{Visible, outputBytes}
-use Rattle.lines.proofs.DecimalLaws.{decimal-injective}
-use Rattle.lines.proofs.SpacedLaws.{length-text}
+use Rattle.decimal.proofs.DecimalLaws.{decimal-injective}
+use Rattle.text.proofs.SpacedLaws.{length-text}
 use Rattle.lines.proofs.VisibleLaws.{visible-decimal, visible-word}
 
 -- a word or a number ends where the first byte stands that is not above the space, or where the list ends

@@ -1,10 +1,10 @@
 -- The worked lines are as written out, and there is a line of 358 bytes. Computed. Assumes nothing.
 use mathlib.Core.Path.{_≡_, refl}
-use mathlib.Core.List.{List, map}
-use Prim.Native.Nat.{ℕ}
+use mathlib.Core.List.{map}
 use lib.ListN.{length}
-use Rattle.lines.specs.Decimal.{decimal, decimalBy}
-use Rattle.lines.specs.Line.{spaced, lineBytes}
+use Rattle.decimal.specs.Decimal.{decimal, decimalBy}
+use Rattle.text.specs.Text.{spaced}
+use Rattle.lines.specs.Line.{lineBytes}
 use Rattle.lines.specs.Trials.{Trial, trials, longest}
 
 pub trials-hold : map (λ (t : Trial). lineBytes (t .line)) trials ≡ map (λ (t : Trial). t .bytes) trials

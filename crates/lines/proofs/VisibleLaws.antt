@@ -7,10 +7,10 @@ use native.Mathlib.Omega.{arith}
 use lib.Dec.{ltb}
 use lib.ListN.{length}
 use borrow.Author.Tests.{ltb-true}
-use Rattle.lines.specs.Decimal.{decimal, Digits}
+use Rattle.decimal.specs.Decimal.{decimal, Digits}
 use Rattle.lines.specs.Line.{Line, ok, begin, commit, cycle, swept, good, bad, order, refused, wordOf}
 use Rattle.lines.specs.Reading.{Visible}
-use Rattle.lines.proofs.DecimalLaws.{digits-decimal}
+use Rattle.decimal.proofs.DecimalLaws.{digits-decimal}
 
 visible-of-digits : (l : List ℕ) → Digits l → Visible l
 visible-of-digits [] h = tt

@@ -1,4 +1,3 @@
-pub mod Decimal
 pub mod Line
 pub mod Reading
 pub mod Writing

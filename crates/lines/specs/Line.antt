@@ -1,9 +1,9 @@
--- The lines that the service answers with, and the bytes of each. RULES, Lines. Rests on specs/Decimal.antt.
-use mathlib.Core.List.{List, [], _∷_, _++_}
-use Prim.Native.Nat.{ℕ, _<_, _≤_, _^_}
+-- The lines that the service answers with, and the bytes of each. RULES, The service. Rests on `text`.
+use mathlib.Core.List.{List, [], _∷_}
+use Prim.Native.Nat.{ℕ, _≤_, _^_}
 use lib.ListN.{length}
 use Rattle.endian.specs.Places.{Below}
-use Rattle.lines.specs.Decimal.{decimal}
+use Rattle.text.specs.Text.{textOf}
 
 -- n is a transaction's number, c a count, r a refusal number
 pub data Line : Type 0 where
@@ -41,15 +41,6 @@ numbersOf good = []
 numbersOf bad = []
 numbersOf (order l) = l
 numbersOf (refused r) = r ∷ []
-
--- a space before each number, and none behind the last
-unfoldable pub spaced : List ℕ → List ℕ
-spaced [] = []
-spaced (n ∷ l) = 32 ∷ (decimal n ++ spaced l)
-
--- a word, its numbers and one newline
-abbrev pub textOf : List ℕ → List ℕ → List ℕ
-textOf w l = w ++ (spaced l ++ (10 ∷ []))
 
 abbrev pub lineBytes : Line → List ℕ
 lineBytes x = textOf (wordOf x) (numbersOf x)

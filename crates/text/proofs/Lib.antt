@@ -1,0 +1,2 @@
+pub mod SpacedLaws
+pub mod StoreLaws
