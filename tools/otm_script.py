@@ -77,16 +77,17 @@ class Step:
 
 
 def parse(text):
-    """The steps of a script. Raises Mistake with the number of the first line that is wrong."""
-    steps = []
+    """The steps of a script, and the mistakes in it, each with its line's number."""
+    steps, mistakes = [], []
     for number, line in enumerate(text.split("\n"), 1):
         try:
             step = parse_line(line, number)
         except Mistake as m:
-            raise Mistake(m.sentence, number) from None
+            mistakes.append(Mistake(m.sentence, number))
+            continue
         if step:
             steps.append(step)
-    return steps
+    return steps, mistakes
 
 
 def parse_line(line, number=0):
