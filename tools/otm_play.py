@@ -7,7 +7,7 @@ from itertools import accumulate
 from pathlib import Path
 from typing import Optional
 
-from otm_script import frames, read_body  # sets the path of delphrimock
+from otm_script import CUT, frames, read_body, why_ten  # sets the path of delphrimock
 
 from delphrimock import Call, Coordinator, ServiceEnded, explain
 
@@ -20,10 +20,11 @@ class NoService(Exception):
 
 @dataclass
 class Reply:
-    """A message and the line that answered it. `call` is None where the body says none; `line` where none came."""
+    """A message and the line that answered it, None where none came. Where the message says no call, `why` tells why."""
 
     message: bytes
     call: Optional[Call]
+    why: str
     line: Optional[str]
 
 
@@ -56,11 +57,17 @@ def play(steps):
     at = step = 0
     for message, wrong in frames(stream):
         # A stream that is cut gets its line at the end; any other message as soon as it is whole, or is seen to be wrong.
-        at += len(message) if not wrong or wrong == "cut off" else 1 if message[0] != 1 else 3
+        at += len(message) if not wrong or wrong == CUT else 1 if message[0] != 1 else 3
         while ends[step] < at:
             step += 1
-        replies[step].append(Reply(message, None if wrong else read_body(message[3:]), next(lines, None)))
+        replies[step].append(Reply(message, *understand(message, wrong), next(lines, None)))
     return replies
+
+
+def understand(message, wrong):
+    """The call of a message and "", or None and what is wrong with it."""
+    call = None if wrong else read_body(message[3:])
+    return call, "" if call else wrong or why_ten(message[3:])
 
 
 def kept(steps):
@@ -102,11 +109,21 @@ def _done(call):
     return f"transaction {n} is {'aborted' if call.name == 'abort' else 'forgotten'}, and its slot is free"
 
 
-def plain(call, line):
-    """What an answer says, and what to do about it if anything: two texts, the second often empty."""
+# Which answers, besides refusals, a call can get.
+FITTING = {"begin": ("begin",), "decide": ("commit", "cycle"), "sweep": ("swept",), "propose": ("good", "bad"), "order": ("order",)}
+
+
+def plain(call, line, why=""):
+    """What an answer says, and what to do about it if anything: two texts, the second often empty.
+
+    `why` is what is wrong with a message that says no call.
+    """
     word, _, rest = line.partition(" ")
-    if word == "refused":
-        return explain(int(rest), call)
+    if word == "refused" and rest.isdigit():
+        meaning, advice = explain(int(rest), call)
+        return why or meaning, advice
+    if not call or word not in FITTING.get(call.name, ("ok",)):
+        return "this is no answer to such a message", "Look whether the program is the service: OTM_SERVICE may name another."
     if word == "ok":
         return _done(call), ""
     if word == "begin":
@@ -125,7 +142,7 @@ def plain(call, line):
     if word == "order":
         if not rest:
             return "nothing is kept, so the order is empty", ""
-        return f"all tickets of the kept ones agree with this order: {', then '.join(rest.split(' '))}", ""
+        return "an order of the kept ones that agrees with all their tickets", ""
     if word == "good":
         return "this is an order of the kept ones", ""
     return (
@@ -134,4 +151,4 @@ def plain(call, line):
     )
 
 
-__all__ = ["Coordinator", "NoService", "Reply", "ServiceEnded", "answers", "kept", "plain", "play", "program"]
+__all__ = ["Coordinator", "NoService", "Reply", "ServiceEnded", "answers", "kept", "plain", "play", "program", "understand"]
