@@ -58,7 +58,7 @@ def show(stations):
     for s in stations:
         print(f"  {s.name}: {', '.join(s.jobs()) or 'no jobs'}")
     found = sum(s.jobs().count("inspect the relief boat") for s in stations)
-    print(f"  The relief boat is inspected {['never', 'once', 'twice'][found]}.")
+    print(f"  The relief boat is {['never inspected', 'inspected once', 'inspected twice'][found]}.")
 
 
 def without():
