@@ -27,6 +27,7 @@ use Rattle.desk.specs.Desk.{deskBody}
 use Rattle.table.specs.Shut.{shutTable}
 use Rattle.turns.specs.declared.Turn.{Turn}
 use Rattle.turns.specs.Struct.{turnOf}
+use Rattle.turns.proofs.RoomLaws.{laid-fits}
 use Rattle.turns.specs.Turn.{Turned, turned, turn, roomy, stops, ends, behind, eleven}
 
 -- how a turn goes on, by what stands in front
@@ -183,19 +184,12 @@ module _ (last : Bool) (t : Table) (l out : List ℕ) where
       }
 
 -- the same as the code gives it, clause by clause
-pub clauses : (r : Turned) (out : List ℕ) (table : Table) (used written : ℕ) (over : Bool) (now : List ℕ) → Ended r out table used written over now
-    → (x : Turn) → x ≡ turnOf (shutTable table) used written over → (z : List ℕ) → z ≡ now
-    → (x .table ≡ shutTable (r .table)) × ((x .used ≡ r .used) × ((x .written ≡ length (r .written)) × ((x .over ≡ r .over) × (z ≡ laid out 0 (r .written)))))
-clauses r out table used written over now e x p z q = (
-  ap (λ y. y .table) p ∙ ap shutTable (e .0),
-  (
-    ap (λ y. y .used) p ∙ e .1,
-    (
-      ap (λ y. y .written) p ∙ e .2,
-      (
-        ap (λ y. y .over) p ∙ e .3,
-        q ∙ e .4,
-      ),
-    ),
-  ),
-)
+pub clauses : (r : Turned) (l out : List ℕ) (table : Table) (used written : ℕ) (over : Bool) (now : List ℕ) → Ended r out table used written over now → r .used ≤ length l
+    → (x : Turn) → x ≡ turnOf (shutTable table) used written over → (z : List ℕ) → z ≡ now → length z ≡ length out
+    → (x .table ≡ shutTable (r .table)) × ((x .used ≡ r .used) × ((x .written ≡ length (r .written)) × ((x .over ≡ r .over) × ((z ≡ laid out 0 (r .written)) × ((x .used ≤ length l) × (x .written ≤ length out))))))
+clauses r l out table used written over now e h x p z q n =
+    let u = ap (λ y. y .used) p ∙ e .1 in
+    let w = ap (λ y. y .written) p ∙ e .2 in
+    let b = q ∙ e .4 in
+    let f = laid-fits out (r .written) 0 (omega arith) (ap length (sym b) ∙ n) in
+    (ap (λ y. y .table) p ∙ ap shutTable (e .0), (u, (w, (ap (λ y. y .over) p ∙ e .3, (b, (omega (arith, u, h), omega (arith, w, f)))))))

@@ -38,13 +38,15 @@ fn last_line(table: Table, used: usize, out: &mut [u8], written: usize) -> Turn
 }
 
 // Answers the whole messages of `input` from the front, for as long as the longest line still fits into `out`. A message that is
-// not answered is not touched. `last` says that no more input comes: then a message that is cut off is an 11.
+// not answered is not touched. `last` says that no more input comes: then a message that is cut off is an 11. The last clause
+// follows from the others; it is said for callers.
 pub fn take_turn(t: Table, input: &[u8], last: bool, out: &mut [u8]) -> Turn
     ensures table { λ r. ⌜ r .table ≡ shutTable (turn last (t .held) (length (now (out .entry))) (streamOf (now (input .entry))) .table) ⌝ }
     ensures used { λ r. ⌜ r .used ≡ turn last (t .held) (length (now (out .entry))) (streamOf (now (input .entry))) .used ⌝ }
     ensures written { λ r. ⌜ r .written ≡ length (turn last (t .held) (length (now (out .entry))) (streamOf (now (input .entry))) .written) ⌝ }
     ensures over { λ r. ⌜ r .over ≡ turn last (t .held) (length (now (out .entry))) (streamOf (now (input .entry))) .over ⌝ }
     ensures buffer { λ _. ⌜ now (out .exit) ≡ laid (now (out .entry)) 0 (turn last (t .held) (length (now (out .entry))) (streamOf (now (input .entry))) .written) ⌝ }
+    ensures within { λ r. ⌜ (r .used ≤ length (now (input .entry))) × (r .written ≤ length (now (out .entry))) ⌝ }
 {
     let mut table = t;
     let mut used: usize = 0;

@@ -7,10 +7,6 @@ use lib.ListN.{length, take}
 use lib.Seq.{length-take-le}
 use denote.Ref.{now}
 use borrow.Author.Needs.{needs}
-use Rattle.wire.specs.Stream.{streamOf}
-use Rattle.turns.specs.Turn.{turn}
-use Rattle.turns.proofs.TurnLaws.{used-le}
-use Rattle.turns.proofs.RoomLaws.{laid-fits}
 use Rattle.service.proofs.settle.Statement.{statement}
 use Rattle.service.proofs.settle.Tie as tie
 
@@ -32,18 +28,13 @@ module _ (c : tie.After-take-turn Inv-loop μ-loop) where
   size = length-take-le (loop .loop .left) (loop .loop .input) (omega (arith, loop .loop .inv .0, loop .loop .inv .2))
 
   used-fits : c .take-turn .result .used ≤ loop .loop .left
-  used-fits =
-      let u = used-le (loop .before .before .before .args .last) (loop .loop .table .held) (length (loop .loop .output)) given in
-      omega (arith, u, size, c .take-turn .ensures .1 .0)
+  used-fits = omega (arith, c .take-turn .ensures .1 .1 .1 .1 .1 .0, size)
 
   same : length (c .take-turn .last .1 .1 .1 .0) ≡ length (loop .loop .output)
   same = c .take-turn .kept .1 .1 .1 .0
 
   written-fits : c .take-turn .result .written ≤ length (c .take-turn .last .1 .1 .1 .0)
-  written-fits =
-      let e = c .take-turn .ensures .1 .1 in
-      let f = laid-fits (loop .loop .output) (turn (loop .before .before .before .args .last) (loop .loop .table .held) (length (loop .loop .output)) (streamOf given) .written) 0 (omega arith) (ap length (sym (e .1 .1)) ∙ same) in
-      omega (arith, f, e .0, same)
+  written-fits = omega (arith, c .take-turn .ensures .1 .1 .1 .1 .1 .1, same)
 
 loop-holds : tie.Need-loop-holds Inv-loop μ-loop
 loop-holds c = (refl, refl, c .before .before .pre)

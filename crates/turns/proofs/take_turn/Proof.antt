@@ -22,7 +22,7 @@ use Rattle.desk.specs.Desk.{deskBody}
 use Rattle.desk.specs.Served.{bytesFor, servedTable, servedCount, servedOut}
 use Rattle.turns.specs.Turn.{Turned, turn, stops, ends, eleven}
 use Rattle.turns.proofs.RoomLaws.{served-room, laid-fits}
-use Rattle.turns.proofs.TurnLaws.{Going, Ended, going-start, going-stops, going-ends, going-frame, turn-no-room, turn-bad, turn-not-yet, clauses}
+use Rattle.turns.proofs.TurnLaws.{Going, Ended, going-start, going-stops, going-ends, going-frame, turn-no-room, turn-bad, turn-not-yet, used-le, clauses}
 use Rattle.turns.proofs.take_turn.Statement.{statement}
 use Rattle.turns.proofs.take_turn.Tie as tie
 
@@ -79,6 +79,9 @@ module _ (c : tie.After-read-frame Inv-loop μ-loop) where
 
   abbrev whole-turn : Turned
   whole-turn = turn last first (length out) (streamOf input)
+
+  within-input : whole-turn .used ≤ length input
+  within-input = used-le last first (length out) input
 
   -- no whole frame: by what the code asks then
   waits : (b : Bool) → frameAnswer (nextFrame (drop used input)) ≡ FrameAnswer.NotYet → last && not (eqb (length (take (length input - used) (drop used input))) 0) ≡ b → on-rest ≡ cond b (ends held-now) (stops held-now)
@@ -232,7 +235,7 @@ returns c =
     let t = c .before .before .before .before in
     let r = t .before .before .before in
     let l = c .before .before .last-line in
-    clauses (whole-turn r) (out r) _ _ _ _ _ (ending r (waits r true (sym (answer r) ∙ t .before .enum-told .given .1) (t .if1 .taken))) (l .result) (l .ensures .0) _ (l .ensures .1)
+    clauses (whole-turn r) (input r) (out r) _ _ _ _ _ (ending r (waits r true (sym (answer r) ∙ t .before .enum-told .given .1) (t .if1 .taken))) (within-input r) (l .result) (l .ensures .0) _ (l .ensures .1) (same-length c)
 
 same-length-2 : tie.Need-same-length-2 Inv-loop μ-loop
 same-length-2 c = c .before .before .before .before .before .before .loop .inv .0
@@ -240,7 +243,7 @@ same-length-2 c = c .before .before .before .before .before .before .loop .inv .
 returns-2 : tie.Need-returns-2 Inv-loop μ-loop
 returns-2 c =
     let r = c .before .before .before in
-    clauses (whole-turn r) (out r) _ _ _ _ _ (stopping r (waits r false (sym (answer r) ∙ c .before .enum-told .given .1) (c .if1 .left))) _ refl _ refl
+    clauses (whole-turn r) (input r) (out r) _ _ _ _ _ (stopping r (waits r false (sym (answer r) ∙ c .before .enum-told .given .1) (c .if1 .left))) (within-input r) _ refl _ refl (same-length-2 c)
 
 enum-told-2 : tie.Need-enum-told-2 Inv-loop μ-loop
 enum-told-2 c = c .match .keys3
@@ -256,7 +259,7 @@ returns-3 c =
     let t = c .before .before .before .before in
     let r = t .before .before in
     let l = c .before .before .last-line2 in
-    clauses (whole-turn r) (out r) _ _ _ _ _ (ending r (turn-bad _ _ _ (room r) _ (sym (answer r) ∙ t .enum-told2 .given .1))) (l .result) (l .ensures .0) _ (l .ensures .1)
+    clauses (whole-turn r) (input r) (out r) _ _ _ _ _ (ending r (turn-bad _ _ _ (room r) _ (sym (answer r) ∙ t .enum-told2 .given .1))) (within-input r) (l .result) (l .ensures .0) _ (l .ensures .1) (same-length-3 c)
 
 same-length-4 : tie.Need-same-length-4 Inv-loop μ-loop
 same-length-4 c = c .before .loop .inv .0
@@ -266,7 +269,7 @@ returns-4 c =
     let l = c .before in
     let a = l .before .before .before .args in
     let e = turn-no-room (a .last) (l .loop .table .held) (length (now (a .out)) - l .loop .written) (omega (arith, l .loop .inv .0)) (streamOf (drop (l .loop .used) (now (a .input)))) in
-    clauses (turn (a .last) (a .t .held) (length (now (a .out))) (streamOf (now (a .input)))) (now (a .out)) _ _ _ _ _ (going-stops (a .last) (a .t .held) (now (a .input)) (now (a .out)) (l .loop .table .held) (l .loop .used) (l .loop .out) (l .loop .written) (l .loop .inv .1) e) _ refl _ refl
+    clauses (turn (a .last) (a .t .held) (length (now (a .out))) (streamOf (now (a .input)))) (now (a .input)) (now (a .out)) _ _ _ _ _ (going-stops (a .last) (a .t .held) (now (a .input)) (now (a .out)) (l .loop .table .held) (l .loop .used) (l .loop .out) (l .loop .written) (l .loop .inv .1) e) (used-le (a .last) (a .t .held) (length (now (a .out))) (now (a .input))) _ refl _ refl (same-length-4 c)
 
 pub take-turn-spec : {M : Type 1} → statement M
 take-turn-spec =
