@@ -1,0 +1,5 @@
+mod RangeLaws
+mod PartsLaws
+mod AskedLaws
+mod LineLaws
+mod ServedLaws

@@ -1,0 +1,4 @@
+pub mod Lines
+pub mod Turn
+pub mod Pieces
+pub mod Struct
