@@ -1,6 +1,7 @@
 """Scripts played through the service: which line answers which call, in plain words."""
 
 import os
+import re
 import subprocess
 from dataclasses import dataclass
 from itertools import accumulate
@@ -71,12 +72,15 @@ def understand(message, wrong):
 
 
 def kept(steps):
-    """What is kept at a script's end: the order of it that the service gives, and everyone's tickets by site."""
+    """What is kept at a script's end: the order of it that the service gives, None if the table was never opened; everyone's
+    tickets by site; and those that were aborted because of a cycle."""
     whole, tickets, cycles = b"", {}, []
     for reply in (r for each in play(steps) for r in each):
-        if reply.line is None or reply.line == "refused 11":
+        if reply.line == "refused 11":
             break
         whole += reply.message
+        if not fits(reply.call, reply.line):
+            raise NoService(f"'{reply.line or 'nothing'}' is no answer to such a message; is the program the service?")
         word, _, number = reply.line.partition(" ")
         if word == "begin":
             tickets[int(number)] = {}
@@ -84,10 +88,29 @@ def kept(steps):
             tickets[reply.call.number][reply.call.site] = reply.call.ticket
         elif word == "cycle":
             cycles.append(int(number))
-    last = answers(whole + Call("order").message())[-1]
-    if not last.startswith("order"):
+    last = (answers(whole + Call("order").message()) or [""])[-1]
+    if last == "refused 1":
         return None, tickets, cycles
+    if not fits(Call("order"), last):
+        raise NoService(f"'{last or 'nothing'}' is no answer to order; is the program the service?")
     return [int(n) for n in last.split(" ")[1:]], tickets, cycles
+
+
+# Which answers, besides refusals, a call can get.
+ANSWERS = {
+    "begin": r"begin [0-9]+",
+    "decide": r"(commit|cycle) [0-9]+",
+    "sweep": r"swept [0-9]+",
+    "propose": r"good|bad",
+    "order": r"order( [0-9]+)*",
+}
+
+
+def fits(call, line):
+    """Whether the line can answer the call; a message that says no call can only be refused."""
+    if line is None:
+        return False
+    return bool(re.fullmatch(r"refused [0-9]+", line) or call and re.fullmatch(ANSWERS.get(call.name, "ok"), line))
 
 
 # ---- plain words
@@ -101,16 +124,12 @@ def _sites(sites):
 def _done(call):
     n = call.number
     if call.name == "open":
-        return f"the table is open with {_sites(range(len(call.numbers)))}; the first transaction gets number {n}"
+        return f"the table is open: {_sites(range(len(call.numbers)))}; first number {n}"
     if call.name == "ticket":
         return f"transaction {n} holds ticket {call.ticket} at site {call.site}"
     if call.name == "prepared":
         return f"transaction {n} is prepared at site {call.site}"
     return f"transaction {n} is {'aborted' if call.name == 'abort' else 'forgotten'}, and its slot is free"
-
-
-# Which answers, besides refusals, a call can get.
-FITTING = {"begin": ("begin",), "decide": ("commit", "cycle"), "sweep": ("swept",), "propose": ("good", "bad"), "order": ("order",)}
 
 
 def plain(call, line, why=""):
@@ -119,11 +138,11 @@ def plain(call, line, why=""):
     `why` is what is wrong with a message that says no call.
     """
     word, _, rest = line.partition(" ")
-    if word == "refused" and rest.isdigit():
+    if not fits(call, line):
+        return "this is no answer to such a message", "Look whether the program is the service: OTM_SERVICE may name another."
+    if word == "refused":
         meaning, advice = explain(int(rest), call)
         return why or meaning, advice
-    if not call or word not in FITTING.get(call.name, ("ok",)):
-        return "this is no answer to such a message", "Look whether the program is the service: OTM_SERVICE may name another."
     if word == "ok":
         return _done(call), ""
     if word == "begin":
