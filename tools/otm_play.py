@@ -73,8 +73,8 @@ def understand(message, wrong):
 
 def kept(steps):
     """What is kept at a script's end: the order of it that the service gives, None if the table was never opened; everyone's
-    tickets by site; and those that were aborted because of a cycle."""
-    whole, tickets, cycles = b"", {}, []
+    tickets by site; and those that were aborted because of a cycle, each with all that had been committed until then."""
+    whole, tickets, committed, cycles = b"", {}, [], []
     for reply in (r for each in play(steps) for r in each):
         if reply.line == "refused 11":
             break
@@ -86,8 +86,10 @@ def kept(steps):
             tickets[int(number)] = {}
         elif word == "ok" and reply.call.name == "ticket":
             tickets[reply.call.number][reply.call.site] = reply.call.ticket
+        elif word == "commit":
+            committed.append(int(number))
         elif word == "cycle":
-            cycles.append(int(number))
+            cycles.append((int(number), tuple(committed)))
     last = (answers(whole + Call("order").message()) or [""])[-1]
     if last == "refused 1":
         return None, tickets, cycles
