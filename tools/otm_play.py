@@ -85,7 +85,7 @@ def kept(steps):
         if word == "begin":
             tickets[int(number)] = {}
         elif word == "ok" and reply.call.name == "ticket":
-            tickets[reply.call.number][reply.call.site] = reply.call.ticket
+            tickets.setdefault(reply.call.number, {})[reply.call.site] = reply.call.ticket
         elif word == "commit":
             committed.append(int(number))
         elif word == "cycle":

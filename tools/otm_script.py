@@ -51,6 +51,7 @@ EXAMPLES = {
     "bytes": "bytes 01 00 02 01 03",
 }
 
+ANSWERS = "ok, begin N, commit N, cycle N, swept C, good, bad, order N N .. and refused R"
 ANSWER = re.compile(r"ok|good|bad|order( [0-9]+)*|(begin|commit|cycle|swept|refused) [0-9]+")
 
 
@@ -98,12 +99,10 @@ def parse_line(line, number=0):
         if arrow:
             raise Mistake("an answer stands here without a call before its '->'.")
         return None
+    if arrow and not expected:
+        raise Mistake("no answer stands behind '->'.")
     if arrow and not ANSWER.fullmatch(expected):
-        raise Mistake(
-            f"'{expected}' is no answer; answers are ok, begin N, commit N, cycle N, swept C, good, bad, order N N .., refused R."
-            if expected
-            else "no answer stands behind '->'."
-        )
+        raise Mistake(f"'{expected}' is no answer; answers are {ANSWERS}.")
     words = said.split(" ")
     if words[0] == "bytes":
         message, call = _bytes(words[1:]), None
