@@ -1,13 +1,14 @@
 """Scripts played through the service: which line answers which call, in plain words."""
 
 import os
+import re
 import subprocess
 from dataclasses import dataclass
 from itertools import accumulate
 from pathlib import Path
 from typing import Optional
 
-from otm_script import frames, read_body  # sets the path of delphrimock
+from otm_script import CUT, frames, read_body, why_ten  # sets the path of delphrimock
 
 from delphrimock import Call, Coordinator, ServiceEnded, explain
 
@@ -20,10 +21,11 @@ class NoService(Exception):
 
 @dataclass
 class Reply:
-    """A message and the line that answered it. `call` is None where the body says none; `line` where none came."""
+    """A message and the line that answered it, None where none came. Where the message says no call, `why` tells why."""
 
     message: bytes
     call: Optional[Call]
+    why: str
     line: Optional[str]
 
 
@@ -56,31 +58,61 @@ def play(steps):
     at = step = 0
     for message, wrong in frames(stream):
         # A stream that is cut gets its line at the end; any other message as soon as it is whole, or is seen to be wrong.
-        at += len(message) if not wrong or wrong == "cut off" else 1 if message[0] != 1 else 3
+        at += len(message) if not wrong or wrong == CUT else 1 if message[0] != 1 else 3
         while ends[step] < at:
             step += 1
-        replies[step].append(Reply(message, None if wrong else read_body(message[3:]), next(lines, None)))
+        replies[step].append(Reply(message, *understand(message, wrong), next(lines, None)))
     return replies
 
 
+def understand(message, wrong):
+    """The call of a message and "", or None and what is wrong with it."""
+    call = None if wrong else read_body(message[3:])
+    return call, "" if call else wrong or why_ten(message[3:])
+
+
 def kept(steps):
-    """What is kept at a script's end: the order of it that the service gives, and everyone's tickets by site."""
-    whole, tickets, cycles = b"", {}, []
+    """What is kept at a script's end: the order of it that the service gives, None if the table was never opened; everyone's
+    tickets by site; and those that were aborted because of a cycle, each with all that had been committed until then."""
+    whole, tickets, committed, cycles = b"", {}, [], []
     for reply in (r for each in play(steps) for r in each):
-        if reply.line is None or reply.line == "refused 11":
+        if reply.line == "refused 11":
             break
         whole += reply.message
+        if not fits(reply.call, reply.line):
+            raise NoService(f"'{reply.line or 'nothing'}' is no answer to such a message; is the program the service?")
         word, _, number = reply.line.partition(" ")
         if word == "begin":
             tickets[int(number)] = {}
         elif word == "ok" and reply.call.name == "ticket":
             tickets[reply.call.number][reply.call.site] = reply.call.ticket
+        elif word == "commit":
+            committed.append(int(number))
         elif word == "cycle":
-            cycles.append(int(number))
-    last = answers(whole + Call("order").message())[-1]
-    if not last.startswith("order"):
+            cycles.append((int(number), tuple(committed)))
+    last = (answers(whole + Call("order").message()) or [""])[-1]
+    if last == "refused 1":
         return None, tickets, cycles
+    if not fits(Call("order"), last):
+        raise NoService(f"'{last or 'nothing'}' is no answer to order; is the program the service?")
     return [int(n) for n in last.split(" ")[1:]], tickets, cycles
+
+
+# Which answers, besides refusals, a call can get.
+ANSWERS = {
+    "begin": r"begin [0-9]+",
+    "decide": r"(commit|cycle) [0-9]+",
+    "sweep": r"swept [0-9]+",
+    "propose": r"good|bad",
+    "order": r"order( [0-9]+)*",
+}
+
+
+def fits(call, line):
+    """Whether the line can answer the call; a message that says no call can only be refused."""
+    if line is None:
+        return False
+    return bool(re.fullmatch(r"refused [0-9]+", line) or call and re.fullmatch(ANSWERS.get(call.name, "ok"), line))
 
 
 # ---- plain words
@@ -94,7 +126,7 @@ def _sites(sites):
 def _done(call):
     n = call.number
     if call.name == "open":
-        return f"the table is open with {_sites(range(len(call.numbers)))}; the first transaction gets number {n}"
+        return f"the table is open: {_sites(range(len(call.numbers)))}; first number {n}"
     if call.name == "ticket":
         return f"transaction {n} holds ticket {call.ticket} at site {call.site}"
     if call.name == "prepared":
@@ -102,11 +134,17 @@ def _done(call):
     return f"transaction {n} is {'aborted' if call.name == 'abort' else 'forgotten'}, and its slot is free"
 
 
-def plain(call, line):
-    """What an answer says, and what to do about it if anything: two texts, the second often empty."""
+def plain(call, line, why=""):
+    """What an answer says, and what to do about it if anything: two texts, the second often empty.
+
+    `why` is what is wrong with a message that says no call.
+    """
     word, _, rest = line.partition(" ")
+    if not fits(call, line):
+        return "this is no answer to such a message", "Look whether the program is the service: OTM_SERVICE may name another."
     if word == "refused":
-        return explain(int(rest), call)
+        meaning, advice = explain(int(rest), call)
+        return why or meaning, advice
     if word == "ok":
         return _done(call), ""
     if word == "begin":
@@ -125,7 +163,7 @@ def plain(call, line):
     if word == "order":
         if not rest:
             return "nothing is kept, so the order is empty", ""
-        return f"all tickets of the kept ones agree with this order: {', then '.join(rest.split(' '))}", ""
+        return "an order of the kept ones that agrees with all their tickets", ""
     if word == "good":
         return "this is an order of the kept ones", ""
     return (
@@ -134,4 +172,4 @@ def plain(call, line):
     )
 
 
-__all__ = ["Coordinator", "NoService", "Reply", "ServiceEnded", "answers", "kept", "plain", "play", "program"]
+__all__ = ["Coordinator", "NoService", "Reply", "ServiceEnded", "answers", "kept", "plain", "play", "program", "understand"]

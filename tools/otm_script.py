@@ -204,17 +204,20 @@ def _shown(values, between=" "):
     return between.join(map(str, values)) or "none"
 
 
+CUT = "the input ends inside the message"
+
+
 def frames(stream):
     """The messages of a stream: pairs of bytes and None, or, of the last one if it is no message, why the answer is 11."""
     at = 0
     while at < len(stream):
         end = at + 3 + int.from_bytes(stream[at + 1 : at + 3], "big")
         if stream[at] != 1:
-            yield stream[at:], f"version {stream[at]}, not 1"
+            yield stream[at:], f"its version is {stream[at]}, not 1"
         elif at + 3 <= len(stream) and end - at - 3 > LONGEST_BODY:
-            yield stream[at:], f"length {end - at - 3}, over {LONGEST_BODY}"
+            yield stream[at:], f"its length is {end - at - 3}, over {LONGEST_BODY}"
         elif len(stream) < max(end, at + 3):
-            yield stream[at:], "cut off"
+            yield stream[at:], CUT
         else:
             yield stream[at:end], None
             at = end
@@ -235,7 +238,8 @@ def unparse(stream):
 
 def why_ten(body):
     if not body:
-        return "an empty body"
+        return "its body is empty"
     if body[0] >= len(KINDS):
-        return f"kind {body[0]}; kinds are 0 to 9"
-    return f"kind {body[0]}, {KINDS[body[0]]}, has no body of length {len(body)}"
+        return f"its kind is {body[0]}, and kinds are 0 to 9"
+    name = KINDS[body[0]]
+    return f"its kind is {body[0]}, {name}, and {name} has no body of {len(body)} byte{'s' if len(body) > 1 else ''}"

@@ -12,6 +12,7 @@
 One file, standard library only. The rules are docs/RULES.md; sections are cited by their titles.
 """
 
+import os
 import subprocess
 import threading
 from dataclasses import dataclass
@@ -251,7 +252,7 @@ class Coordinator:
     """
 
     def __init__(self, service="target/bin/service"):
-        command = [service] if isinstance(service, str) else list(service)
+        command = [service] if isinstance(service, (str, os.PathLike)) else list(service)
         self._lock = threading.Lock()
         self._process = subprocess.Popen(command, stdin=subprocess.PIPE, stdout=subprocess.PIPE, bufsize=0)
         self._lines = self._process.stdout
