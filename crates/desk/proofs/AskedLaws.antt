@@ -27,12 +27,12 @@ use Rattle.wire.specs.Body.{messageAt, messageOf}
 use Rattle.wire.specs.Answers.{requestOf, messageWith, bodyAnswer}
 use Rattle.wire.proofs.CaseLaws.{by-kind}
 use Rattle.wire.proofs.KindsLaws.{length-of-entries, length-le-of-entries}
-use Rattle.wire.proofs.RequestLaws.{message-of-request, none-of-wrong}
+use Rattle.wire.proofs.RequestLaws.{message-of-request}
 use Rattle.desk.specs.declared.replies.Replied.{Replied}
 use Rattle.desk.specs.Desk.{answerLine, told, ifOpen, desk, deskBody}
 use Rattle.desk.specs.Asked.{isOrdering}
 
--- the bytes that each message has at least, by its kind
+-- the kind of a message
 abbrev kindOf : Message → ℕ
 kindOf (opening n fs) = 0
 kindOf (beginning s) = 1
@@ -77,9 +77,6 @@ module _ (b : List ℕ) where
         let (low, high) = long-enough (proposing (words (drop 1 b))) m in
         let e : length (words (drop 1 b)) ≡ c = cc in
         (low, e, omega (arith, length-words (drop 1 b), length-drop 1 b))
-
-  pub desk-of-wrong : (t : method.Table) → bodyAnswer (messageOf b) ≡ BodyAnswer.Wrong → deskBody t b ≡ (t, refused 10)
-  desk-of-wrong t h = rw (none-of-wrong b h)
 
 -- a call's answer handed on is what the desk owes, for each message that is one call
 module _ (t : Table) (b : List ℕ) (q p : Request) (h : bodyAnswer (messageOf b) ≡ BodyAnswer.Request q) (e : q ≡ p) where

@@ -3,3 +3,5 @@ mod PartsLaws
 mod AskedLaws
 mod LineLaws
 mod ServedLaws
+pub mod DeskLaws
+pub mod TrialLaws

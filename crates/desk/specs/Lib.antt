@@ -1,3 +1,4 @@
 pub mod Desk
 pub mod Served
 pub mod Asked
+pub mod Trials

@@ -18,7 +18,7 @@ use table::Answered;
 use table::Table;
 
 // `n` floors stand in the body from byte 5 on.
-pub fn open(t: Table, first: u32, n: usize, body: &[u8]) -> Answered
+pub(crate) fn open(t: Table, first: u32, n: usize, body: &[u8]) -> Answered
     requires { ⌜ (5 ≤ length (now body)) × (length (wordsOf (drop 5 (now body))) ≡ n) × (n ≤ 38) ⌝ }
     ensures answer { λ r. ⌜ r .answer ≡ answerTo t (openWith first (wordsOf (drop 5 (now (body .entry))))) ⌝ }
     ensures table { λ r. ⌜ r .table ≡ tableAfter t (openWith first (wordsOf (drop 5 (now (body .entry))))) ⌝ }
@@ -30,7 +30,7 @@ pub fn open(t: Table, first: u32, n: usize, body: &[u8]) -> Answered
 }
 
 // `n` numbers stand in the body from byte 1 on.
-pub fn judge(t: Table, n: usize, body: &[u8]) -> Words
+pub(crate) fn judge(t: Table, n: usize, body: &[u8]) -> Words
     requires { ⌜ (1 ≤ length (now body)) × (length (wordsOf (drop 1 (now body))) ≡ n) × (n ≤ 39) ⌝ }
     ensures line { λ r. ⌜ lineOf r ≡ cond (isClosed (t .held)) (refused 1) (proposalLine (keptFlat (t .held)) (wordsOf (drop 1 (now (body .entry))))) ⌝ }
 {

@@ -12,7 +12,7 @@ use lines::Words;
 use rows::WriteAnswer;
 use table::Table;
 
-pub fn give(t: Table, out: &mut [u8], place: usize) -> usize
+pub(crate) fn give(t: Table, out: &mut [u8], place: usize) -> usize
     requires { ⌜ place + 358 ≤ length (now out) ⌝ }
     ensures answer { λ r. ⌜ r ≡ length (lineBytes (desk (t .held) ordering .1)) ⌝ }
     ensures buffer { λ _. ⌜ now (out .exit) ≡ laid (now (out .entry)) place (lineBytes (desk (t .held) ordering .1)) ⌝ }

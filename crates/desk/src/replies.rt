@@ -18,12 +18,14 @@ use table::Answered;
 use table::Table;
 use wire::reader::Request;
 
+// The table after the request, and what is said.
 pub struct Replied {
     pub table: Table,
     pub words: Words,
 }
 
-pub fn is_ordering(q: Request) -> bool
+// Is it the request for an order? Its line has a list, so it is answered apart.
+pub(crate) fn is_ordering(q: Request) -> bool
     ensures answer { λ r. ⌜ r ≡ isOrdering q ⌝ }
 {
     match q {
@@ -47,6 +49,7 @@ pub fn is_ordering(q: Request) -> bool
     }
 }
 
+// A call's answer, as words.
 fn words_of(a: Answer) -> Words
     ensures line { λ r. ⌜ lineOf r ≡ answerLine a ⌝ }
 {
@@ -60,6 +63,7 @@ fn words_of(a: Answer) -> Words
     }
 }
 
+// The same with the table that the call left.
 fn told(a: Answered) -> Replied
     ensures table { λ r. ⌜ r .table ≡ a .table ⌝ }
     ensures line { λ r. ⌜ lineOf (r .words) ≡ answerLine (a .answer) ⌝ }
@@ -73,7 +77,8 @@ fn told(a: Answered) -> Replied
     }
 }
 
-pub fn reply(t: Table, q: Request, body: &[u8]) -> Replied
+// The request that was read off the body: the table is lent to its call, or asked about the proposal.
+pub(crate) fn reply(t: Table, q: Request, body: &[u8]) -> Replied
     requires { ⌜ bodyAnswer (messageOf (now body)) ≡ bodies.BodyAnswer.Request q ⌝ }
     requires { ⌜ isOrdering q ≡ false ⌝ }
     ensures table { λ r. ⌜ r .table ≡ shutTable (deskBody (t .held) (now (body .entry)) .0) ⌝ }
@@ -103,7 +108,7 @@ pub fn reply(t: Table, q: Request, body: &[u8]) -> Replied
                 words: words,
             }
         }
-        // not one of these
+        // shut out by the contract: its line has a list
         Request::Ordering => Replied {
             table: t,
             words: Words::Ok,

@@ -1,5 +1,4 @@
-// The kept rows as flat tables: aligned with the slots, for the graph; packed one behind the other, for orders.
-// RULES, Graph and decision; Orders.
+// The kept rows' tickets as a flat table, aligned with the slots, for the graph. RULES, Graph and decision.
 ghost use mathlib.Core.Path.{_≡_};
 ghost use Prim.Native.Nat.{_<_};
 ghost use lib.ListN.{length};

@@ -1,4 +1,4 @@
-// Ticket tables and their orders: the check of a proposed order and the writer of one. RULES, Orders.
+// What the check of a proposed order and the writer of one answer; specs/ says when. RULES, Orders.
 
 // What the check answers: 13, yes or no (`checkReply` of specs/Reply.antt).
 pub enum CheckAnswer {

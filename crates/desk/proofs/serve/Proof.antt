@@ -9,7 +9,9 @@ use Rattle.table.specs.Shut.{shutTable}
 use Rattle.wire.specs.declared.reader.BodyAnswer.{BodyAnswer}
 use Rattle.wire.specs.Answers.{bodyAnswer}
 use Rattle.wire.specs.Body.{messageOf}
-use Rattle.desk.proofs.AskedLaws.{desk-of-wrong, desk-of-ordering}
+use Rattle.wire.proofs.RequestLaws.{none-of-wrong}
+use Rattle.desk.proofs.AskedLaws.{desk-of-ordering}
+use Rattle.desk.proofs.DeskLaws.{ten-of-no-message}
 use Rattle.desk.proofs.ServedLaws.{serves-nothing, serves-line}
 use Rattle.desk.proofs.serve.Statement.{statement}
 use Rattle.desk.proofs.serve.Tie as tie
@@ -28,23 +30,23 @@ room : (c : tie.Else2) → let a = c .before .before .before .before .args in a 
 room c = omega (arith, c .if2 .left, c .before .if1 .left)
 
 read-body-requires : tie.Need-read-body-requires
-read-body-requires c κs = search needs
+read-body-requires c κs = tt
 
 -- what the reader said of the body
 read : (c : tie.After-read-body) (x : BodyAnswer) → c .read-body .result ≡ x → bodyAnswer (messageOf (c .before .before .before .before .before .args .body .now)) ≡ x
 read c x e = sym (c .read-body .ensures) ∙ e
 
 enum-told : tie.Need-enum-told
-enum-told c = search needs
+enum-told c = c .match .keys1
 
 say-requires : tie.Need-say-requires
 say-requires c κs = search needs
 
 enum-known-q : tie.Need-enum-known-q
-enum-known-q c = search needs
+enum-known-q c = c .match .keys2
 
 is-ordering-requires : tie.Need-is-ordering-requires
-is-ordering-requires c κs = search needs
+is-ordering-requires c κs = tt
 
 give-requires : tie.Need-give-requires
 give-requires c κs = search needs
@@ -70,7 +72,7 @@ same-length-2 c = search needs
 returns-4 : tie.Need-returns-4
 returns-4 c =
     let a = c .before .before .before .before .before .before .before .before .before .before .before .args in
-    let d = desk-of-wrong (a .body .now) (a .t .held) (read (c .before .before .before .before .before .before) _ (c .before .before .before .before .enum-told .given .1)) in
+    let d = ten-of-no-message (a .t .held) (a .body .now) (none-of-wrong (a .body .now) (read (c .before .before .before .before .before .before) _ (c .before .before .before .before .enum-told .given .1))) in
     serves-line (a .t) (a .body .now) (a .out .now) (a .place) (room (c .before .before .before .before .before .before .before)) _ _ _ _ (ap (λ x. shutTable (x .0)) (sym d)) (ap (λ x. x .1) (sym d)) (c .before .before .say .ensures)
 
 same-length-3 : tie.Need-same-length-3

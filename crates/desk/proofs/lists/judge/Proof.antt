@@ -20,7 +20,7 @@ use Rattle.desk.proofs.lists.judge.Statement.{statement}
 use Rattle.desk.proofs.lists.judge.Tie as tie
 
 is-closed-requires : tie.Need-is-closed-requires
-is-closed-requires c κs = search needs
+is-closed-requires c κs = tt
 
 returns : tie.Need-returns
 returns c = rw (sym (c .before .is-closed .ensures) ∙ c .if1 .taken)
@@ -38,10 +38,10 @@ slice-aggregate-get-words : tie.Need-slice-aggregate-get-words
 slice-aggregate-get-words c = search needs
 
 get-words-requires : tie.Need-get-words-requires
-get-words-requires c κs = search needs
+get-words-requires c κs = tt
 
 kept-rows-requires : tie.Need-kept-rows-requires
-kept-rows-requires c κs = search needs
+kept-rows-requires c κs = tt
 
 -- at most 32 rows are kept
 module _ (c : tie.After-kept-rows) where
@@ -67,7 +67,7 @@ slice-aggregate-check-2 : tie.Need-slice-aggregate-check-2
 slice-aggregate-check-2 c = sym (length-take-le _ _ (search needs))
 
 check-requires : tie.Need-check-requires
-check-requires c κs = search needs
+check-requires c κs = tt
 
 -- the table is open, and what the check's answer says of the line
 module _ (c : tie.After-check) where
@@ -83,13 +83,13 @@ module _ (c : tie.After-check) where
       proposal-line _ _ _ _ _ x (kept-part _ _ (k .ensures .0) (k .ensures .1)) ns (c .check .ensures) e
 
 enum-told : tie.Need-enum-told
-enum-told c = search needs
+enum-told c = c .match .keys1
 
 enum-told-2 : tie.Need-enum-told-2
-enum-told-2 c = search needs
+enum-told-2 c = c .match .keys2
 
 enum-told-3 : tie.Need-enum-told-3
-enum-told-3 c = search needs
+enum-told-3 c = c .match .keys3
 
 returns-2 : tie.Need-returns-2
 returns-2 c = rw (opened (c .before .before)) (told (c .before .before) CheckAnswer.Bad (c .enum-told .given .1))

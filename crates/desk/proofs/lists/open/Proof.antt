@@ -21,7 +21,7 @@ slice-aggregate-get-words : tie.Need-slice-aggregate-get-words
 slice-aggregate-get-words c = search needs
 
 get-words-requires : tie.Need-get-words-requires
-get-words-requires c κs = search needs
+get-words-requires c κs = tt
 
 array-share-prefix-floors : tie.Need-array-share-prefix-floors
 array-share-prefix-floors c = search needs
@@ -37,7 +37,7 @@ floors-read c =
     words-handed (s .args .body .now) (replicate 38 0) _ 5 _ (p .0) (p .1) (p .2) (c .before .before .get-words .ensures .1)
 
 lend-open-with-requires : tie.Need-lend-open-with-requires
-lend-open-with-requires c κs = search needs
+lend-open-with-requires c κs = tt
 
 returns : tie.Need-returns
 returns c = rw (← floors-read (c .before)) (c .lend-open-with .ensures)

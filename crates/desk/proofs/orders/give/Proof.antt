@@ -18,7 +18,7 @@ use Rattle.desk.proofs.orders.give.Statement.{statement}
 use Rattle.desk.proofs.orders.give.Tie as tie
 
 is-closed-requires : tie.Need-is-closed-requires
-is-closed-requires c κs = search needs
+is-closed-requires c κs = tt
 
 say-requires : tie.Need-say-requires
 say-requires c κs = search needs
@@ -30,7 +30,7 @@ returns : tie.Need-returns
 returns c = rw (order-closed _ (sym (c .before .before .before .before .before .is-closed .ensures) ∙ c .before .before .before .before .if1 .taken)) (c .before .before .say .ensures)
 
 kept-rows-requires : tie.Need-kept-rows-requires
-kept-rows-requires c κs = search needs
+kept-rows-requires c κs = tt
 
 -- at most 32 rows are kept
 module _ (c : tie.After-kept-rows) where
@@ -53,7 +53,7 @@ slice-aggregate-write-2 : tie.Need-slice-aggregate-write-2
 slice-aggregate-write-2 c = search needs
 
 write-requires : tie.Need-write-requires
-write-requires c κs = search needs
+write-requires c κs = tt
 
 -- what the writer's answer says of the line
 told : (c : tie.After-write) (x : WriteAnswer) → c .write .result ≡ x
@@ -66,25 +66,25 @@ told c x e =
     order-open t (sym (c .before .before .before .before .before .before .before .is-closed .ensures) ∙ c .before .before .before .before .before .before .if1 .left) ∙ order-line _ _ _ _ _ x p n (search needs) (c .write .ensures) e
 
 enum-told : tie.Need-enum-told
-enum-told c = search needs
+enum-told c = c .match .keys1
 
 say-requires-2 : tie.Need-say-requires-2
 say-requires-2 c κs = search needs
 
 enum-told-2 : tie.Need-enum-told-2
-enum-told-2 c = search needs
+enum-told-2 c = c .match .keys2
 
 say-requires-3 : tie.Need-say-requires-3
 say-requires-3 c κs = search needs
 
 enum-told-3 : tie.Need-enum-told-3
-enum-told-3 c = search needs
+enum-told-3 c = c .match .keys3
 
 say-requires-4 : tie.Need-say-requires-4
 say-requires-4 c κs = search needs
 
 enum-known-n : tie.Need-enum-known-n
-enum-known-n c = search needs
+enum-known-n c = c .match .keys4
 
 slice-aggregate-say-order : tie.Need-slice-aggregate-say-order
 slice-aggregate-say-order c = search needs

@@ -1,6 +1,5 @@
 -- `desk::replies::reply` meets its contract: each request goes to the call that the desk makes of its message. Assumes nothing.
 use mathlib.Core.Path.{refl, ap, _∙_}
-use borrow.Author.Needs.{needs}
 use Rattle.graph.proofs.TestLaws.{true-not-false}
 use Rattle.wire.specs.declared.reader.BodyAnswer.{BodyAnswer}
 use Rattle.desk.specs.Desk.{desk}
@@ -10,7 +9,7 @@ use Rattle.desk.proofs.replies.reply.Statement.{statement}
 use Rattle.desk.proofs.replies.reply.Tie as tie
 
 enum-known-q : tie.Need-enum-known-q
-enum-known-q c = search needs
+enum-known-q c = c .match .keys1
 
 open-requires : tie.Need-open-requires
 open-requires c κs =
@@ -18,73 +17,73 @@ open-requires c κs =
     floors-of-request (a .args .body .now) _ _ (a .pre .0 ∙ ap BodyAnswer.Request (c .before .q .given .1))
 
 told-requires : tie.Need-told-requires
-told-requires c κs = search needs
+told-requires c κs = tt
 
 enum-known-q-2 : tie.Need-enum-known-q-2
-enum-known-q-2 c = search needs
+enum-known-q-2 c = c .match .keys2
 
 lend-begin-requires : tie.Need-lend-begin-requires
-lend-begin-requires c κs = search needs
+lend-begin-requires c κs = tt
 
 told-requires-2 : tie.Need-told-requires-2
-told-requires-2 c κs = search needs
+told-requires-2 c κs = tt
 
 enum-known-q-3 : tie.Need-enum-known-q-3
-enum-known-q-3 c = search needs
+enum-known-q-3 c = c .match .keys3
 
 lend-report-ticket-requires : tie.Need-lend-report-ticket-requires
-lend-report-ticket-requires c κs = search needs
+lend-report-ticket-requires c κs = tt
 
 told-requires-3 : tie.Need-told-requires-3
-told-requires-3 c κs = search needs
+told-requires-3 c κs = tt
 
 enum-known-q-4 : tie.Need-enum-known-q-4
-enum-known-q-4 c = search needs
+enum-known-q-4 c = c .match .keys4
 
 lend-report-prepared-requires : tie.Need-lend-report-prepared-requires
-lend-report-prepared-requires c κs = search needs
+lend-report-prepared-requires c κs = tt
 
 told-requires-4 : tie.Need-told-requires-4
-told-requires-4 c κs = search needs
+told-requires-4 c κs = tt
 
 enum-known-q-5 : tie.Need-enum-known-q-5
-enum-known-q-5 c = search needs
+enum-known-q-5 c = c .match .keys5
 
 lend-abort-requires : tie.Need-lend-abort-requires
-lend-abort-requires c κs = search needs
+lend-abort-requires c κs = tt
 
 told-requires-5 : tie.Need-told-requires-5
-told-requires-5 c κs = search needs
+told-requires-5 c κs = tt
 
 enum-known-q-6 : tie.Need-enum-known-q-6
-enum-known-q-6 c = search needs
+enum-known-q-6 c = c .match .keys6
 
 lend-decide-requires : tie.Need-lend-decide-requires
-lend-decide-requires c κs = search needs
+lend-decide-requires c κs = tt
 
 told-requires-6 : tie.Need-told-requires-6
-told-requires-6 c κs = search needs
+told-requires-6 c κs = tt
 
 enum-known-q-7 : tie.Need-enum-known-q-7
-enum-known-q-7 c = search needs
+enum-known-q-7 c = c .match .keys7
 
 lend-forget-requires : tie.Need-lend-forget-requires
-lend-forget-requires c κs = search needs
+lend-forget-requires c κs = tt
 
 told-requires-7 : tie.Need-told-requires-7
-told-requires-7 c κs = search needs
+told-requires-7 c κs = tt
 
 enum-told : tie.Need-enum-told
-enum-told c = search needs
+enum-told c = c .match .keys8
 
 lend-sweep-requires : tie.Need-lend-sweep-requires
-lend-sweep-requires c κs = search needs
+lend-sweep-requires c κs = tt
 
 told-requires-8 : tie.Need-told-requires-8
-told-requires-8 c κs = search needs
+told-requires-8 c κs = tt
 
 enum-known-q-8 : tie.Need-enum-known-q-8
-enum-known-q-8 c = search needs
+enum-known-q-8 c = c .match .keys9
 
 judge-requires : tie.Need-judge-requires
 judge-requires c κs =
@@ -92,7 +91,7 @@ judge-requires c κs =
     numbers-of-request (a .args .body .now) _ (a .pre .0 ∙ ap BodyAnswer.Request (c .before .q8 .given .1))
 
 enum-told-2 : tie.Need-enum-told-2
-enum-told-2 c = search needs
+enum-told-2 c = c .match .keys10
 
 returns : tie.Need-returns
 unfolding desk

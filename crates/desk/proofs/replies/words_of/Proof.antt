@@ -6,28 +6,28 @@ use Rattle.desk.proofs.replies.words_of.Statement.{statement}
 use Rattle.desk.proofs.replies.words_of.Tie as tie
 
 enum-told : tie.Need-enum-told
-enum-told c = search needs
+enum-told c = c .match .keys1
 
 enum-known-a : tie.Need-enum-known-a
-enum-known-a c = search needs
+enum-known-a c = c .match .keys2
 
 enum-known-a-2 : tie.Need-enum-known-a-2
-enum-known-a-2 c = search needs
+enum-known-a-2 c = c .match .keys3
 
 enum-known-a-3 : tie.Need-enum-known-a-3
-enum-known-a-3 c = search needs
+enum-known-a-3 c = c .match .keys4
 
 enum-known-a-4 : tie.Need-enum-known-a-4
-enum-known-a-4 c = search needs
+enum-known-a-4 c = c .match .keys5
 
 enum-known-a-5 : tie.Need-enum-known-a-5
-enum-known-a-5 c = search needs
+enum-known-a-5 c = c .match .keys6
 
 cast-t8 : tie.Need-cast-t8
 cast-t8 c = search needs
 
 returns : tie.Need-returns
-returns c = search needs
+returns c = sym (ap answerLine (c .enum-told .given .1))
 
 returns-2 : tie.Need-returns-2
 returns-2 c = sym (ap answerLine (c .before .a .given .1))

@@ -8,7 +8,7 @@ use Rattle.desk.proofs.said.say.Statement.{statement}
 use Rattle.desk.proofs.said.say.Tie as tie
 
 write-line-requires : tie.Need-write-line-requires
-write-line-requires c κs = search needs
+write-line-requires c κs = tt
 
 same-length : tie.Need-same-length
 same-length c = search needs

@@ -12,7 +12,7 @@ use Rattle.desk.proofs.said.say_order.Statement.{statement}
 use Rattle.desk.proofs.said.say_order.Tie as tie
 
 write-order-requires : tie.Need-write-order-requires
-write-order-requires c κs = search needs
+write-order-requires c κs = tt
 
 same-length : tie.Need-same-length
 same-length c = search needs
