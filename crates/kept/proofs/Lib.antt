@@ -1,1 +1,2 @@
 pub mod AlignedLaws
+pub mod OneListLaws

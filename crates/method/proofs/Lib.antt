@@ -8,3 +8,4 @@ pub mod GraphLaws
 pub mod StageLaws
 pub mod SearchLaws
 pub mod CheckLaws
+pub mod ListedLaws

@@ -25,3 +25,6 @@ pub mod FollowLaws
 pub mod ExactlyLaws
 pub mod ForgetAllLaws
 pub mod NoneToForgetLaws
+pub mod PlacedLaws
+pub mod PaperLaws
+pub mod ReportedLaws

@@ -4,3 +4,4 @@ pub mod Sound
 pub mod Invariant
 pub mod Follows
 pub mod Sweeps
+pub mod Placed

@@ -1,3 +1,4 @@
 pub mod PieceLaws
 pub mod TurnLaws
 pub mod RoomLaws
+pub mod PromptLaws

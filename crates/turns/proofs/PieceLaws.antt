@@ -29,7 +29,7 @@ abbrev output : Table → Stream → List ℕ
 output t s = outputBytes (linesOf t s)
 
 -- behind a frame
-drop-frame : (b xs : List ℕ) (u : ℕ) → drop (3 + length b + u) (frameOf b ++ xs) ≡ drop u xs
+pub drop-frame : (b xs : List ℕ) (u : ℕ) → drop (3 + length b + u) (frameOf b ++ xs) ≡ drop u xs
 drop-frame b xs u =
     let e : length (frameOf b) ≡ 3 + length b = omega arith in
     sym (drop-drop u (3 + length b) (frameOf b ++ xs)) ∙ ap (drop u) (drop-at (frameOf b) xs (3 + length b) e)

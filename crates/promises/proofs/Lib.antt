@@ -1,0 +1,9 @@
+pub mod AnsweredLaws
+pub mod DeskLaws
+pub mod JudgedLaws
+pub mod WrittenLaws
+pub mod KeptLaws
+pub mod Proved1
+pub mod Proved2
+pub mod Proved3
+pub mod ProvedUnique

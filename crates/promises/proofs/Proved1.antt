@@ -1,0 +1,129 @@
+-- The promises of demand 1, each from laws further down. Assumes nothing.
+use mathlib.Core.Path.{_≡_, refl, sym, ap, subst, _∙_}
+use mathlib.Core.Bool.{true, cond}
+use mathlib.Core.List.{List, [], _∷_, _++_}
+use mathlib.Core.Logic.{_↔_, _⊎_, inl, inr}
+use mathlib.Core.Option.{none, some, Option·none-ne-some}
+use Prim.Native.Nat.{ℕ, _+_, _≤_}
+use native.Mathlib.Omega.{arith}
+use lib.ListN.{length, take, drop}
+use lib.Seq.{take-at}
+use borrow.Author.Tests.{lt-leb}
+use Rattle.endian.specs.Laid.{laid}
+use Rattle.rows.specs.Reply.{Reply}
+use Rattle.rows.specs.Write.{Written, Written.bad, Written.noRoom, Written.noOrder, Written.written, writeResult}
+use Rattle.rows.proofs.WriteLaws.{write-result}
+use Rattle.wire.specs.declared.writer.WriteAnswer.{WriteAnswer}
+use Rattle.wire.specs.Frame.{Next, nothing, cut, bad, whole, frameOf, nextFrame, Means, Bad, Cut}
+use Rattle.wire.specs.Stream.{Stream, ended, cutOff, framed, streamOf}
+use Rattle.wire.specs.Writing.{writeAnswer, leftBy}
+use Rattle.wire.specs.Body.{messageOf}
+use Rattle.wire.specs.Answers.{bodyAnswer, frameAnswer, readAnswer}
+use Rattle.wire.specs.Meaning.{BodyMeans, FrameMeans, ReadMeans, WriteMeans, writeRefusal}
+use Rattle.wire.proofs.FrameLaws.{means-next, next-of-means}
+use Rattle.wire.proofs.StreamLaws.{stream-of-nothing, stream-of-cut, stream-of-bad, stream-of-whole}
+use Rattle.wire.proofs.MeaningLaws.{body-means, body-of-means, frame-means, frame-of-means, read-means, read-of-means, write-means, write-of-means}
+use Rattle.lines.specs.Line.{Line}
+use Rattle.lines.specs.Reading.{outputBytes}
+use Rattle.lines.proofs.LineLaws.{one-line}
+use Rattle.lines.proofs.ReadingLaws.{outputBytes-injective}
+use Rattle.method.specs.declared.Table as method
+use Rattle.method.specs.declared.Answer.{Answer}
+use Rattle.method.proofs.RecordLaws.{never}
+use Rattle.method.proofs.CallLaws.{refused-keeps, refused-exactly}
+use Rattle.runs.proofs.FollowLaws.{follows, unknown-iff-over}
+use Rattle.table.specs.Shut.{shutTable}
+use Rattle.desk.specs.Desk.{deskBody}
+use Rattle.turns.specs.Lines.{linesOf, answerTo}
+use Rattle.turns.specs.Turn.{Turned, turn}
+use Rattle.turns.proofs.PieceLaws.{turn-rest, pieces-whole}
+use Rattle.turns.proofs.PromptLaws.{turn-stops}
+use Rattle.promises.specs.Contracts.{WriteGives, MessageGives}
+use Rattle.promises.specs.Demand1.{Answered, RefusedKeeps, RefusedExactly, linesFor, OneLineEach}
+use Rattle.promises.proofs.AnsweredLaws.{step-answered}
+use Rattle.promises.proofs.DeskLaws.{body-keeps, ten-iff, desk-of-none, one-of-closed, four-of-open}
+
+pub every-call-answered : Answered
+every-call-answered t c a u (e, f) = rw e (step-answered (t .held) c)
+
+-- refusals change nothing
+order-keeps : (flat : List ℕ) (place : ℕ) (out : List ℕ) (r : Reply) (after : List ℕ) → Written flat place out r after → (k : ℕ) → r ≡ Reply.refused k → after ≡ out
+order-keeps flat place out r after (bad e f g) k h = f
+order-keeps flat place out r after (noRoom e f g i) k h = f
+order-keeps flat place out r after (noOrder e f g i j) k h = f
+order-keeps flat place out r after (written o e f g i j l) k h = never (cc)
+
+message-keeps : (b out : List ℕ) (place : ℕ) (r : WriteAnswer) (k : ℕ) → writeRefusal r ≡ some k → leftBy r b out place ≡ out
+message-keeps b out place (WriteAnswer.Written n) k e = absurd (Option·none-ne-some k e)
+message-keeps b out place WriteAnswer.TooLong k e = refl
+message-keeps b out place WriteAnswer.Wrong k e = refl
+message-keeps b out place WriteAnswer.NoRoom k e = refl
+
+pub refusals-keep : RefusedKeeps
+refusals-keep = record {
+  calls = λ t c a u g k e. g .1 ∙ ap shutTable (refused-keeps (t .held) c k (sym (g .0) ∙ e));
+  orders = λ flat place out r after g k e. order-keeps flat place out _ after (rw (g .1) (write-result flat place out)) k (sym (g .0) ∙ e);
+  messages = λ b out place r after g k e. g .1 ∙ message-keeps b out place (writeAnswer b out place) k (rw (g .0) at e);
+  roomless = λ t b out place r after g h. let e = lt-leb (place + 358) (length out) h in (g .0 ∙ rw e, g .1 ∙ rw e, g .2 ∙ rw e);
+  served = λ t b k. body-keeps t k b;
+}
+
+-- an answer that fits, and no second one does, is the answer exactly if it fits
+exactly : {A : Type 0} (Means : A → Type 0) (r x : A) → Means r → ((y : A) → Means y → r ≡ y) → (x ≡ r) ↔ Means x
+exactly Means r x h f = (λ e. rw e h, λ m. sym (f x m))
+
+pub refusals-exactly : RefusedExactly
+refusals-exactly = record {
+  calls = λ t c a u g k. rw (g .0) (refused-exactly (t .held) c k);
+  unknown = unknown-iff-over;
+  usedUp = λ r first floors o. let e = follows r .sequence first floors o in (λ u. sym e ∙ u, λ u. e ∙ u);
+  bodies = λ b r w g x. rw g (exactly (BodyMeans b) (bodyAnswer (messageOf b)) x (body-means b w) (body-of-means b w));
+  frames = λ l r g x. rw g (exactly (FrameMeans l) (frameAnswer (nextFrame l)) x (frame-means l) (frame-of-means l));
+  reads = λ l r w g x. rw g (exactly (ReadMeans l) (readAnswer (nextFrame l)) x (read-means l w) (read-of-means l w));
+  writes = λ b out place r after w g x. rw (g .0) (exactly (WriteMeans b out place) (writeAnswer b out place) x (write-means b out place w) (write-of-means b out place w));
+  ten = ten-iff;
+  one = one-of-closed;
+  four = four-of-open;
+}
+
+-- the lines of a stream, by what stands in front
+lines-of-whole : (t : method.Table) (b r : List ℕ) → length b ≤ 160 → linesFor t (frameOf b ++ r) ≡ deskBody t b .1 ∷ linesFor (deskBody t b .0) r
+unfolding linesOf
+lines-of-whole t b r h = rw (stream-of-whole (frameOf b ++ r) b r (next-of-means (frameOf b ++ r) (whole b r) (record { bytes = refl; short = h })))
+
+lines-of-eleven : (t : method.Table) (l : List ℕ) → Bad l ⊎ Cut l → linesFor t l ≡ Line.refused 11 ∷ []
+unfolding linesOf
+lines-of-eleven t l (inl h) = rw (stream-of-bad l (next-of-means l bad h))
+lines-of-eleven t l (inr h) = rw (stream-of-cut l (next-of-means l cut h))
+
+lines-of-nothing : (t : method.Table) → linesFor t [] ≡ []
+unfolding linesOf
+lines-of-nothing t = rw (stream-of-nothing [] (next-of-means [] nothing refl))
+
+ways-of : (l : List ℕ) → (l ≡ []) ⊎ (((b : List ℕ) × (r : List ℕ) × (length b ≤ 160) × (l ≡ frameOf b ++ r)) ⊎ (Bad l ⊎ Cut l))
+ways-of l = go (nextFrame l) (means-next l)
+  where
+    go : (x : Next) → Means l x → (l ≡ []) ⊎ (((b : List ℕ) × (r : List ℕ) × (length b ≤ 160) × (l ≡ frameOf b ++ r)) ⊎ (Bad l ⊎ Cut l))
+    go nothing m = inl m
+    go cut m = inr (inr (inr m))
+    go bad m = inr (inr (inl m))
+    go (whole b r) m = inr (inl (b, r, m .short, m .bytes))
+
+-- what a turn laid down at the front of the buffer
+front : (out w : List ℕ) → take (length w) (laid out 0 w) ≡ w
+front out w = take-at w (drop (0 + length w) out) (length w) refl
+
+pub one-line-each : OneLineEach
+one-line-each = record {
+  ways = ways-of;
+  nothing = lines-of-nothing;
+  message = lines-of-whole;
+  ten = λ t b r h w n. rw (desk-of-none t b w n) at (lines-of-whole t b r h);
+  eleven = lines-of-eleven;
+  text = one-line;
+  lines = outputBytes-injective;
+  pieces = λ ps t. pieces-whole ps t [];
+  turns = λ t input last out r after more g h.
+      rw (g .0, g .1, g .2, g .3, g .4, front out (turn last (t .held) (length out) (streamOf input) .written)) (turn-rest last (t .held) (length out) input more h);
+  prompt = λ t input last out r after g e. rw (g .1, g .2) (turn-stops last (t .held) (length out) input (sym (g .3) ∙ e));
+}

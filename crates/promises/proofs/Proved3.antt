@@ -1,0 +1,95 @@
+-- The promises of demand 3, each from laws further down. Assumes nothing.
+use mathlib.Core.Path.{_≡_, refl, sym, ap, subst, _∙_}
+use mathlib.Core.Bool.{true, false, true≢false}
+use mathlib.Core.List.{List, _++_}
+use mathlib.Core.Logic.{_↔_, _≢_, inl, inr}
+use Prim.Native.Nat.{ℕ, _+_}
+use native.Mathlib.Omega.{arith}
+use lib.Dec.{eqb}
+use lib.ListN.{length, take, drop}
+use borrow.Author.Tests.{eq-eqb}
+use Rattle.graph.specs.Smallest.{SmallestFirst}
+use Rattle.rows.specs.Rows.{numberOf, RowArrow, rowsOf}
+use Rattle.rows.specs.Good.{GoodRows}
+use Rattle.rows.specs.Order.{InOrder}
+use Rattle.rows.specs.Reply.{Reply, checkReply, writeReply}
+use Rattle.rows.specs.Write.{Room, Written, Written.bad, Written.noRoom, Written.noOrder, Written.written}
+use Rattle.rows.specs.CCall.{GoodBytes, OrderBytes, callResult}
+use Rattle.rows.specs.declared.CheckAnswer.{CheckAnswer}
+use Rattle.rows.specs.declared.WriteAnswer.{WriteAnswer}
+use Rattle.rows.proofs.ReplyLaws.{checkReply-injective, writeReply-injective, checked-of-result}
+use Rattle.rows.proofs.WriteLaws.{write-result}
+use Rattle.rows.proofs.CCallLaws.{call-result}
+use Rattle.method.specs.Slots.{keptRows, keptFlat}
+use Rattle.method.proofs.RecordLaws.{never}
+use Rattle.wire.specs.Stream.{streamOf}
+use Rattle.runs.specs.Run.{Run, Run.start, after}
+use Rattle.runs.proofs.InvariantLaws.{history-apart, history-ordered}
+use Rattle.runs.proofs.ReportedLaws.{history-commits, history-reported}
+use Rattle.promises.specs.Demand3.{Checks, OrderCheck, CChecks, OrderCCheck, HasOrder, Writes, OrderWriter, History, KeptRows, NeverInStream}
+use Rattle.promises.proofs.WrittenLaws.{bad-written, no-room-written, no-order-written, wrote-written, written-of-order}
+use Rattle.promises.proofs.JudgedLaws.{bad-iff, yes-iff, no-iff}
+use Rattle.promises.proofs.KeptLaws.{body-never, desk-order, proposal-iff, run-good, run-rows, run-ordered, flat-ordered, never-in-lines}
+
+-- an answer by its reply
+by-reply : {A B : Type 0} {P : Type 0} (f : A → B) → ((a b : A) → f a ≡ f b → a ≡ b) → (r x : A) → (f r ≡ f x) ↔ P → (r ≡ x) ↔ P
+by-reply f inj r x h = (λ e. h .0 (ap f e), λ p. inj r x (h .1 p))
+
+pub order-check : OrderCheck
+order-check flat o r g =
+    let j = checked-of-result flat o r g in
+    let by : Reply.refused 13 ≢ Reply.yes = λ e. never (cc) in
+    let bn : Reply.refused 13 ≢ Reply.no = λ e. never (cc) in
+    let yn : Reply.yes ≢ Reply.no = λ e. never (cc) in
+    record {
+      bad = by-reply checkReply checkReply-injective r CheckAnswer.Bad (bad-iff (Reply.refused 13) Reply.yes Reply.no by bn yn (GoodRows flat) (InOrder (rowsOf flat) o) (checkReply r) j);
+      yes = by-reply checkReply checkReply-injective r CheckAnswer.Yes (yes-iff (Reply.refused 13) Reply.yes Reply.no by bn yn (GoodRows flat) (InOrder (rowsOf flat) o) (checkReply r) j);
+      no = by-reply checkReply checkReply-injective r CheckAnswer.No (no-iff (Reply.refused 13) Reply.yes Reply.no by bn yn (GoodRows flat) (InOrder (rowsOf flat) o) (checkReply r) j);
+    }
+
+differ : (a b : ℕ) → eqb a b ≡ false → a ≢ b
+differ a b e f = true≢false (sym (eq-eqb a b f) ∙ e)
+
+pub order-ccheck : OrderCCheck
+order-ccheck rows o n g =
+    let j = call-result rows o in
+    let by = differ 13 1 refl in
+    let bn = differ 13 0 refl in
+    let yn = differ 1 0 refl in
+    rw g (record {
+      bad = bad-iff 13 1 0 by bn yn (GoodBytes rows) (OrderBytes rows o) (callResult rows o) j;
+      yes = yes-iff 13 1 0 by bn yn (GoodBytes rows) (OrderBytes rows o) (callResult rows o) j;
+      no = no-iff 13 1 0 by bn yn (GoodBytes rows) (OrderBytes rows o) (callResult rows o) j;
+    })
+
+pub order-writer : OrderWriter
+order-writer flat place out r after g =
+    let w : Written flat place out (writeReply r) after = rw (g .0, g .1) (write-result flat place out) in
+    record {
+      bad = by-reply writeReply writeReply-injective r WriteAnswer.Bad (bad-written flat place out (writeReply r) after w);
+      noRoom = by-reply writeReply writeReply-injective r WriteAnswer.NoRoom (no-room-written flat place out (writeReply r) after w);
+      noOrder = by-reply writeReply writeReply-injective r WriteAnswer.NoOrder (no-order-written flat place out (writeReply r) after w);
+      wrote = (
+        λ x. let (a, b, c) = wrote-written flat place out (writeReply r) after w (x .0) (ap writeReply (x .1)) in (a, b, (c .0, c .2)),
+        λ x. let (n, e) = written-of-order flat place out (writeReply r) after w (x .0) (x .1) (x .2) in (n, writeReply-injective r (WriteAnswer.Wrote n) e),
+      );
+      order = λ n e. wrote-written flat place out (writeReply r) after w n (ap writeReply e) .2;
+    }
+
+pub history-ordered-always : History
+history-ordered-always r = record { commits = history-commits r; tickets = history-reported r; apart = history-apart r; ordered = history-ordered r }
+
+pub kept-rows : KeptRows
+kept-rows r = record {
+  rows = run-rows r;
+  good = run-good r;
+  ordered = run-ordered r;
+  never = λ b k. body-never (after r) (run-good r) (flat-ordered r) k b;
+  order = λ nc. rw (run-rows r) at (desk-order (after r) (run-good r) (flat-ordered r) nc);
+  proposal = λ ns nc. rw (run-rows r) at (proposal-iff (after r) (run-good r) (flat-ordered r) nc ns .0);
+  refusal = λ ns nc. rw (run-rows r) at (proposal-iff (after r) (run-good r) (flat-ordered r) nc ns .1);
+}
+
+pub never-in-stream : NeverInStream
+unfolding after
+never-in-stream l k = never-in-lines (streamOf l) start k

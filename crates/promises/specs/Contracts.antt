@@ -1,0 +1,83 @@
+-- What the contracts of the public functions say of a result, with the arguments in front and the result behind. A promise that is
+-- stated for all that meets one of these holds of all that the function can give. The code has the same words behind `ensures`.
+use mathlib.Core.Path.{_≡_}
+use mathlib.Core.Bool.{Bool}
+use mathlib.Core.List.{List}
+use Prim.Native.Nat.{ℕ}
+use lib.ListN.{length, take}
+use Rattle.endian.specs.Laid.{laid, stored}
+use Rattle.decimal.specs.Written.{writtenCount}
+use Rattle.rows.specs.declared.CheckAnswer.{CheckAnswer}
+use Rattle.rows.specs.declared.WriteAnswer.{WriteAnswer}
+use Rattle.rows.specs.Reply.{checkReply, writeReply}
+use Rattle.rows.specs.Order.{checkResult}
+use Rattle.rows.specs.Write.{writeResult}
+use Rattle.rows.specs.CCall.{callResult}
+use Rattle.wire.specs.declared.reader.BodyAnswer.{BodyAnswer}
+use Rattle.wire.specs.declared.reader.FrameAnswer.{FrameAnswer}
+use Rattle.wire.specs.declared.reader.ReadAnswer.{ReadAnswer}
+use Rattle.wire.specs.declared.writer.WriteAnswer as messages
+use Rattle.wire.specs.Body.{messageOf}
+use Rattle.wire.specs.Frame.{nextFrame}
+use Rattle.wire.specs.Stream.{streamOf}
+use Rattle.wire.specs.Answers.{bodyAnswer, frameAnswer, readAnswer}
+use Rattle.wire.specs.Writing.{writeAnswer, written}
+use Rattle.lines.specs.Line.{lineBytes, order}
+use Rattle.lines.specs.Writing.{lineOf}
+use Rattle.lines.specs.declared.Words.{Words}
+use Rattle.method.specs.declared.Answer.{Answer}
+use Rattle.method.specs.Calls.{Call}
+use Rattle.table.specs.declared.Table.{Table}
+use Rattle.table.specs.Shut.{shutTable, answerTo, tableAfter}
+use Rattle.desk.specs.Served.{servedTable, servedCount, servedOut}
+use Rattle.desk.specs.declared.Served.{Served}
+use Rattle.turns.specs.declared.Turn.{Turn}
+use Rattle.turns.specs.Turn.{Turned, turn}
+
+-- the eight calls of `table`, the eight of `lent` and the eight that lend: the answer a, and the table u that is left
+abbrev pub CallGives : Table → Call → Answer → Table → Type 0
+CallGives t c a u = (a ≡ answerTo t c) × (u ≡ tableAfter t c)
+
+-- checker::check(rows, order); ccheck::order_check(rows, order), on bytes
+abbrev pub CheckGives : List ℕ → List ℕ → CheckAnswer → Type 0
+CheckGives flat o r = checkReply r ≡ checkResult flat o
+
+abbrev pub CCheckGives : List ℕ → List ℕ → ℕ → Type 0
+CCheckGives rows o n = n ≡ callResult rows o
+
+-- writer::write(rows, place, out): the answer, and the buffer afterwards
+abbrev pub WriteGives : List ℕ → ℕ → List ℕ → WriteAnswer → List ℕ → Type 0
+WriteGives flat place out r after = (writeReply r ≡ writeResult flat place out .0) × (after ≡ writeResult flat place out .1)
+
+-- wire::reader::read_body(body), read_frame(msg), read_message(msg)
+abbrev pub BodyGives : List ℕ → BodyAnswer → Type 0
+BodyGives b r = r ≡ bodyAnswer (messageOf b)
+
+abbrev pub FrameGives : List ℕ → FrameAnswer → Type 0
+FrameGives l r = r ≡ frameAnswer (nextFrame l)
+
+abbrev pub ReadGives : List ℕ → ReadAnswer → Type 0
+ReadGives l r = r ≡ readAnswer (nextFrame l)
+
+-- wire::writer::write_message(body, out, place)
+abbrev pub MessageGives : List ℕ → List ℕ → ℕ → messages.WriteAnswer → List ℕ → Type 0
+MessageGives b out place r after = (r ≡ writeAnswer b out place) × (after ≡ written b out place)
+
+-- lines::write_line(words, out, place) and write_order(numbers, count, out, place)
+abbrev pub LineGives : Words → List ℕ → ℕ → ℕ → List ℕ → Type 0
+LineGives w out place n after = (n ≡ writtenCount out place (lineBytes (lineOf w))) × (after ≡ stored out place (lineBytes (lineOf w)))
+
+abbrev pub OrderGives : List ℕ → ℕ → List ℕ → ℕ → ℕ → List ℕ → Type 0
+OrderGives numbers count out place n after =
+    (n ≡ writtenCount out place (lineBytes (order (take count numbers)))) × (after ≡ stored out place (lineBytes (order (take count numbers))))
+
+-- desk::serve(t, body, out, place)
+abbrev pub ServeGives : Table → List ℕ → List ℕ → ℕ → Served → List ℕ → Type 0
+ServeGives t b out place r after =
+    (r .table ≡ shutTable (servedTable (t .held) b out place)) × (r .count ≡ servedCount (t .held) b out place) × (after ≡ servedOut (t .held) b out place)
+
+-- turns::take_turn(t, input, last, out)
+abbrev pub TurnGives : Table → List ℕ → Bool → List ℕ → Turn → List ℕ → Type 0
+TurnGives t input last out r after =
+    let x : Turned = turn last (t .held) (length out) (streamOf input) in
+    (r .table ≡ shutTable (x .table)) × (r .used ≡ x .used) × (r .written ≡ length (x .written)) × (r .over ≡ x .over) × (after ≡ laid out 0 (x .written))

@@ -1,0 +1,44 @@
+-- Demand 1, its word `one`: two results that meet the contract of a public function are equal, table and lent memory too.
+-- proofs/ProvedUnique.antt has the proof.
+use mathlib.Core.Path.{_≡_}
+use mathlib.Core.Bool.{Bool}
+use mathlib.Core.List.{List}
+use Prim.Native.Nat.{ℕ, _<_}
+use lib.ListN.{drop}
+use Rattle.sites.specs.Sites.{sitesOf}
+use Rattle.square.specs.Square.{TellsCycle, TellsReached}
+use Rattle.kept.specs.Aligned.{Aligned}
+use Rattle.rows.specs.declared.CheckAnswer.{CheckAnswer}
+use Rattle.rows.specs.declared.WriteAnswer.{WriteAnswer}
+use Rattle.wire.specs.declared.writer.WriteAnswer as messages
+use Rattle.lines.specs.declared.Words.{Words}
+use Rattle.method.specs.declared.Answer.{Answer}
+use Rattle.method.specs.declared.Table as method
+use Rattle.method.specs.Calls.{Call}
+use Rattle.table.specs.declared.Table.{Table}
+use Rattle.desk.specs.declared.Served.{Served}
+use Rattle.turns.specs.declared.Turn.{Turn}
+use Rattle.promises.specs.Contracts.{CallGives, CheckGives, WriteGives, MessageGives, LineGives, OrderGives, ServeGives, TurnGives}
+
+-- a contract `r ≡ ..` leaves one result, whatever stands behind: so of `ccheck`, of the readers in `wire`, of `table`'s questions, and of
+-- all functions that are not named below
+abbrev pub EqualLeavesOne : Type 1
+EqualLeavesOne = (A : Type 0) (f x y : A) → x ≡ f → y ≡ f → x ≡ y
+
+pub record Unique : Type 0 where
+  -- a call, by value, lent or lending: the answer and the table
+  pub calls : (t : Table) (c : Call) (a b : Answer) (u v : Table) → CallGives t c a u → CallGives t c b v → (a ≡ b) × (u ≡ v)
+  -- the answer, and what the lent buffer holds
+  pub write : (flat : List ℕ) (place : ℕ) (out : List ℕ) (a b : WriteAnswer) (k l : List ℕ) → WriteGives flat place out a k → WriteGives flat place out b l → (a ≡ b) × (k ≡ l)
+  pub message : (body out : List ℕ) (place : ℕ) (a b : messages.WriteAnswer) (k l : List ℕ) → MessageGives body out place a k → MessageGives body out place b l → (a ≡ b) × (k ≡ l)
+  pub line : (w : Words) (out : List ℕ) (place a b : ℕ) (k l : List ℕ) → LineGives w out place a k → LineGives w out place b l → (a ≡ b) × (k ≡ l)
+  pub order : (numbers : List ℕ) (count : ℕ) (out : List ℕ) (place a b : ℕ) (k l : List ℕ)
+      → OrderGives numbers count out place a k → OrderGives numbers count out place b l → (a ≡ b) × (k ≡ l)
+  pub serve : (t : Table) (body out : List ℕ) (place : ℕ) (a b : Served) (k l : List ℕ) → ServeGives t body out place a k → ServeGives t body out place b l → (a ≡ b) × (k ≡ l)
+  pub turn : (t : Table) (input : List ℕ) (last : Bool) (out : List ℕ) (a b : Turn) (k l : List ℕ) → TurnGives t input last out a k → TurnGives t input last out b l → (a ≡ b) × (k ≡ l)
+  -- contracts that say it in other ways: checker::check, square::has_cycle and square::reached, kept::aligned, sites::without_lowest
+  pub check : (flat o : List ℕ) (a b : CheckAnswer) → CheckGives flat o a → CheckGives flat o b → a ≡ b
+  pub cycle : (tickets : List ℕ) (a b : Bool) → TellsCycle tickets a → TellsCycle tickets b → a ≡ b
+  pub reached : (tickets : List ℕ) (marks a b : List Bool) → TellsReached tickets marks a → TellsReached tickets marks b → a ≡ b
+  pub aligned : (t : method.Table) (chosen : ℕ) (a b : List ℕ) → Aligned t chosen a → Aligned t chosen b → a ≡ b
+  pub lowest : (x a b : ℕ) → a < 256 → b < 256 → sitesOf a ≡ drop 1 (sitesOf x) → sitesOf b ≡ drop 1 (sitesOf x) → a ≡ b

@@ -1,0 +1,107 @@
+-- The history has a row for each commit answer and no other, and each has the tickets that were reported for it. Assumes nothing.
+use mathlib.Core.Path.{_≡_, refl, sym, ap, subst, _∙_}
+use mathlib.Core.List.{List, _∷_, List·Memᴰ·head as here, List·Memᴰ·tail as there, List·Memᴰ·not-nil}
+use mathlib.Core.Logic.{_↔_, _⊎_, inl, inr}
+use Prim.Native.Nat.{ℕ, _<_}
+use Rattle.graph.specs.Lists.{_∈_}
+use Rattle.rows.specs.Arrow.{ticketAt}
+use Rattle.rows.specs.Rows
+use Rattle.method.specs.declared.Number.{Number}
+use Rattle.method.specs.declared.Table.{Table}
+use Rattle.method.specs.declared.Answer.{Answer}
+use Rattle.method.specs.Records.{number, rowAt}
+use Rattle.method.specs.Slots.{slotOf, rowOfNumber, entryOf}
+use Rattle.method.specs.Calls.{Call}
+use Rattle.method.specs.Calls.Call.{reportTicket, decide}
+use Rattle.method.specs.Effects.{step}
+use Rattle.method.proofs.RecordLaws.{never}
+use Rattle.runs.specs.Run.{Run, Run.start, Run.call, after, answerTo, Happened, TakesTicket, Commits}
+use Rattle.runs.specs.History.{noted, history}
+use Rattle.runs.specs.Sound.{IsActive, num}
+use Rattle.runs.proofs.ChangeLaws.{not-committed, not-free}
+use Rattle.runs.proofs.PresentLaws.{change-of-run}
+use Rattle.runs.proofs.RowFollowLaws.{later-iff}
+use Rattle.runs.proofs.RowsFollowLaws.{rows-follow-run}
+use Rattle.runs.proofs.StepLaws.{Change, Change.refuses, Change.opens, Change.begins, Change.tickets, Change.prepares, Change.commits, Change.frees, Change.sweeps}
+
+-- an answer is a commit, which notes its row, or notes nothing
+module _ (t : Table) (c : Call) (a : Answer) (u : Table) (es : List Rows.Row) where
+  pub data Notes : Type 0 where
+    one : (n : ℕ) → Commits n t c a → IsActive (rowOfNumber t n) → num (rowOfNumber t n) ≡ n → noted t a es ≡ entryOf (rowOfNumber t n) ∷ es → Notes
+    none : ((n : ℕ) → ¬ Commits n t c a) → noted t a es ≡ es → Notes
+
+  notes : Change t c a u → Notes
+  notes (refuses k e p) = none (λ n x. never (cc)) (rw e)
+  notes (opens first floors e f cl b p) = none (λ n x. never (cc)) (rw f)
+  notes (begins sites i nc e f fr ch l h s) = none (λ n x. never (cc)) (rw f)
+  notes (tickets n s k i nc e f p ac nm hs ps st ch sm) = none (λ n x. never (cc)) (rw f)
+  notes (prepares n s i nc e f ac nm hs ps st ch sm) = none (λ n x. never (cc)) (rw f)
+  notes (commits n nc e f ac nm ch l s hi) = one n (e, f) ac nm (rw f)
+  notes (frees n i nc (inl (inl e)) f nm ch sm) = none (λ n x. never (cc)) (rw (e .1))
+  notes (frees n i nc (inl (inr e)) f nm ch sm) = none (λ n x. never (cc)) (rw (e .1))
+  notes (frees n i nc (inr e) f nm ch sm) = none (λ n x. never (cc)) (rw (e .1))
+  notes (sweeps k nc e f ch sm) = none (λ n x. never (cc)) (rw f)
+
+-- a ticket is taken for an active one
+module _ (t : Table) (c : Call) (a : Answer) (u : Table) (m s k : ℕ) (x : TakesTicket m s k t c a) where
+  active-of-ticket : Change t c a u → (i : ℕ) × IsActive (rowAt t i) × (num (rowAt t i) ≡ m)
+  active-of-ticket (refuses j e p) = never (cc)
+  active-of-ticket (opens first floors e f cl b p) = never (cc)
+  active-of-ticket (begins sites i nc e f fr ch l h z) = never (cc)
+  active-of-ticket (tickets n z j i nc e f p ac nm hs ps st ch sm) = (i, ac, nm ∙ (let q : reportTicket n z j ≡ reportTicket m s k = cc in cc))
+  active-of-ticket (prepares n z i nc e f ac nm hs ps st ch sm) = never (cc)
+  active-of-ticket (commits n nc e f ac nm ch l z hi) = never (cc)
+  active-of-ticket (frees n i nc (inl (inl e)) f nm ch sm) = never (cc)
+  active-of-ticket (frees n i nc (inl (inr e)) f nm ch sm) = never (cc)
+  active-of-ticket (frees n i nc (inr e) f nm ch sm) = never (cc)
+  active-of-ticket (sweeps j nc e f ch sm) = never (cc)
+
+-- a row of the history with the number
+abbrev Entry : List Rows.Row → ℕ → Type 0
+Entry es n = (e : Rows.Row) × (e ∈ es) × (e .number ≡ n)
+
+abbrev notes-of : (r : Run) (c : Call) → Notes (after r) c (answerTo r c) (step (after r) c .table) (history r)
+notes-of r c = notes (after r) c (answerTo r c) (step (after r) c .table) (history r) (change-of-run r c)
+
+pub history-commits : (r : Run) (n : ℕ) → Happened (Commits n) r ↔ Entry (history r) n
+unfolding Happened history entryOf
+history-commits start n = (λ x. absurd x, λ x. absurd (List·Memᴰ·not-nil (x .1)))
+history-commits (call r c) n = go (notes-of r c) (history-commits r n)
+  where
+    go : Notes (after r) c (answerTo r c) (step (after r) c .table) (history r) → Happened (Commits n) r ↔ Entry (history r) n
+        → (Commits n (after r) c (answerTo r c) ⊎ Happened (Commits n) r) ↔ Entry (noted (after r) (answerTo r c) (history r)) n
+    go (one m x ac nm p) h = rw p (forth, back)
+      where
+        forth : Commits n (after r) c (answerTo r c) ⊎ Happened (Commits n) r → Entry (entryOf (rowOfNumber (after r) m) ∷ history r) n
+        forth (inl z) = (entryOf (rowOfNumber (after r) m), here refl, nm ∙ (let q : decide m ≡ decide n = cc in cc))
+        forth (inr z) = let (e, i, g) = h .0 z in (e, there i, g)
+
+        back : Entry (entryOf (rowOfNumber (after r) m) ∷ history r) n → Commits n (after r) c (answerTo r c) ⊎ Happened (Commits n) r
+        back (e, here q, g) = inl (let w : m ≡ n = sym nm ∙ ap (λ (y : Rows.Row). y .number) (sym q) ∙ g in rw w at x)
+        back (e, there i, g) = inr (h .1 (e, i, g))
+    go (none f p) h = rw p ((λ y. elim y [ inl z ↦ absurd (f n z) | inr z ↦ h .0 z ]), λ y. inr (h .1 y))
+
+abbrev Reported : Run → Rows.Row → Type 0
+Reported r e = (s k : ℕ) → 0 < k → (ticketAt (e .tickets) s ≡ k) ↔ Happened (TakesTicket (e .number) s k) r
+
+pub history-reported : (r : Run) (e : Rows.Row) → e ∈ history r → Reported r e
+unfolding history entryOf
+history-reported start e m = absurd (List·Memᴰ·not-nil m)
+history-reported (call r c) e m = go (notes-of r c) m (history-reported r e)
+  where
+    -- no ticket is taken for one that is committed
+    old : e ∈ history r → Reported r e → Reported (call r c) e
+    old i h s k l = later-iff r c (TakesTicket (e .number) s k) not-now (h s k l)
+      where
+        not-now : ¬ TakesTicket (e .number) s k (after r) c (answerTo r c)
+        not-now x =
+            let (j, ac, nm) = active-of-ticket (after r) c (answerTo r c) (step (after r) c .table) (e .number) s k x (change-of-run r c) in
+            not-committed ac (rows-follow-run r j (not-free ac) .committed .1 (rw nm (history-commits r (e .number) .1 (e, i, refl))))
+
+    go : Notes (after r) c (answerTo r c) (step (after r) c .table) (history r) → e ∈ noted (after r) (answerTo r c) (history r) → (e ∈ history r → Reported r e) → Reported (call r c) e
+    go (none f p) i h = let j : e ∈ history r = rw p at i in old j (h j)
+    go (one n x ac nm p) i h = new (rw p at i)
+      where
+        new : e ∈ (entryOf (rowOfNumber (after r) n) ∷ history r) → Reported (call r c) e
+        new (there j) = old j (h j)
+        new (here q) = λ s k l. rw q (later-iff r c (TakesTicket (num (rowOfNumber (after r) n)) s k) (λ y. never (cc)) (rows-follow-run r (slotOf (after r) n) (not-free ac) .tickets s k l))
