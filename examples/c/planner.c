@@ -80,9 +80,9 @@ int main(void)
 {
     struct rows r = {{0}, 0};
 
-    puts("1 has ticket 2 at site 0, and 2 has ticket 1 there: 2 goes first");
-    keep(&r, 1, (uint32_t[SITES]){2});
-    keep(&r, 2, (uint32_t[SITES]){1});
+    puts("1 has ticket 256 at site 0, and 2 has ticket 255 there: 2 goes first");
+    keep(&r, 1, (uint32_t[SITES]){256});
+    keep(&r, 2, (uint32_t[SITES]){255});
     PROPOSE(&r, 2, 1);
     PROPOSE(&r, 1, 2);
     PROPOSE(&r, 2);

@@ -2,7 +2,7 @@
 """The February story, without the coordinator and with it. From the project's folder:
 
     rt check service
-    python3 examples/february.py
+    python3 examples/stations.py
 
 Two stations, each with its own database. One evening two transactions run at both: the move of the relief boat from the
 old station to the new one, and the planning, which puts an inspection on the list of every boat that it finds at a station.
