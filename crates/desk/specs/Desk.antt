@@ -1,4 +1,4 @@
--- One message at the desk: the table after it, and its line. RULES, Lines. Rests on the messages of `wire`, the lines of `lines`, the
+-- One message at the desk: the table after it, and its line. RULES, The service. Rests on the messages of `wire`, the lines of `lines`, the
 -- steps of `method` and the orders of `rows`.
 use mathlib.Core.Bool.{cond}
 use mathlib.Core.List.{List}

@@ -1,4 +1,4 @@
-// The desk: one message's body on the table, to the new table and its line. RULES, Lines.
+// The desk: one message's body on the table, to the new table and its line. RULES, The service.
 ghost use mathlib.Core.Path.{_≡_};
 ghost use Rattle.desk.specs.Served.{servedTable, servedCount, servedOut};
 ghost use Rattle.table.specs.Shut.{shutTable};

@@ -1,5 +1,5 @@
 // The service: messages on standard input, a line for each on standard output. Everything but the reading and the writing of
-// bytes is a turn of crate `turns`. RULES, Lines.
+// bytes is a turn of crate `turns`. RULES, The service.
 ghost use mathlib.Core.Path.{_≡_};
 ghost use Prim.Native.Nat.{_-_, _≤_};
 ghost use lib.ListN.{length, take, drop};

@@ -1,5 +1,5 @@
 -- All that the service writes for all that it reads: one line for each frame, and 11 as the last line where the stream is cut or bad.
--- RULES, Lines. proofs/PieceLaws.antt shows that it does not matter in which pieces the stream comes.
+-- RULES, The service. proofs/PieceLaws.antt shows that it does not matter in which pieces the stream comes.
 use mathlib.Core.List.{List, [], _∷_}
 use Prim.Native.Nat.{ℕ}
 use Rattle.lines.specs.Line.{Line, refused}

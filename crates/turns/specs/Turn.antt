@@ -1,4 +1,4 @@
--- One turn: the whole messages at hand are answered into a buffer, as far as it has room. RULES, Lines. `left` is the room; a message
+-- One turn: the whole messages at hand are answered into a buffer, as far as it has room. RULES, The service. `left` is the room; a message
 -- whose line might not fit, the longest line being 358 bytes, is not touched. `last` says that no more input comes.
 use mathlib.Core.Bool.{Bool, true, false, cond, _&&_}
 use mathlib.Core.List.{List, [], _++_}

@@ -1,4 +1,4 @@
-// One turn of the service: the whole messages at hand are answered into a lent buffer, one line each. RULES, Lines.
+// One turn of the service: the whole messages at hand are answered into a lent buffer, one line each. RULES, The service.
 ghost use mathlib.Core.Path.{_≡_};
 ghost use mathlib.Core.Bool.{true};
 ghost use Prim.Native.Nat.{_+_, _≤_};
