@@ -117,9 +117,9 @@ fn cancel(t: Table, slot: usize, n: Number) -> Answered
     ensures answer { λ r. ⌜ r ≡ cancelling t slot (n .0) ⌝ }
 {
     let r = slots::without(t, slot);
-    let u = r.table;
+    let freed = r.table;
     Answered {
-        table: u,
+        table: freed,
         answer: Answer::Cycle(n),
     }
 }
