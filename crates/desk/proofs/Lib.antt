@@ -3,5 +3,6 @@ mod PartsLaws
 mod AskedLaws
 mod LineLaws
 mod ServedLaws
-pub mod DeskLaws
 pub mod TrialLaws
+pub mod RefusalLaws
+pub mod OrderedLaws

@@ -1,17 +1,14 @@
 -- What a call's own row lists is what it can be answered. Assumes nothing.
-use mathlib.Core.Path.{_≡_, refl, subst, _∙_, sym}
-use mathlib.Core.List.{List, [], _∷_, List·Memᴰ·head as here, List·Memᴰ·tail as there, List·Memᴰ·not-nil}
+use mathlib.Core.Path.{_≡_, refl, subst}
+use mathlib.Core.List.{List}
 use mathlib.Core.Logic.{_⊎_, inl, inr}
-use Prim.Native.Nat.{ℕ, _<_}
-use native.Mathlib.Omega.{arith}
+use Prim.Native.Nat.{ℕ}
 use Rattle.graph.specs.Lists.{_∈_}
-use Rattle.endian.specs.Places.{Below}
 use Rattle.method.specs.declared.Table.{Table}
 use Rattle.method.specs.declared.Answer.{Answer}
 use Rattle.method.specs.Calls.{Call, rules}
 use Rattle.method.specs.Calls.Call.{openWith, begin, reportTicket, reportPrepared, abort, decide, forget, sweep}
 use Rattle.method.specs.Effects.{effect, step}
-use Rattle.method.proofs.RecordLaws.{never}
 use Rattle.method.proofs.CallLaws.{Steps, Steps.stopped, Steps.passed, step-goes, refused-exactly}
 use Rattle.method.proofs.ListedLaws.{numbersOf, listed-of-first, decided-answer}
 use Rattle.promises.specs.Demand1.{refusals, Done}
@@ -50,22 +47,3 @@ module _ (t : Table) (c : Call) where
       go : Steps t c (step t c) → Done t c (step t c .answer) ⊎ ((k : ℕ) × (k ∈ refusals c) × (step t c .answer ≡ Answer.Refused k))
       go (stopped k f p q) = inr (k, listed k q, q)
       go (passed n p) = inl (rw p (done-is t c))
-
--- no call is refused with 10 or more
-below-ten : (c : Call) → Below 10 (refusals c)
-below-ten (openWith first floors) = (omega arith, (omega arith, tt))
-below-ten (begin sites) = (omega arith, (omega arith, (omega arith, (omega arith, tt))))
-below-ten (reportTicket n s k) = (omega arith, (omega arith, (omega arith, (omega arith, (omega arith, (omega arith, tt))))))
-below-ten (reportPrepared n s) = (omega arith, (omega arith, (omega arith, (omega arith, tt))))
-below-ten (abort n) = (omega arith, (omega arith, (omega arith, tt)))
-below-ten (decide n) = (omega arith, (omega arith, (omega arith, tt)))
-below-ten (forget n) = (omega arith, (omega arith, (omega arith, (omega arith, tt))))
-below-ten sweep = (omega arith, tt)
-
-below-of-member : (m : ℕ) (l : List ℕ) → Below m l → (k : ℕ) → k ∈ l → k < m
-below-of-member m [] w k i = absurd (List·Memᴰ·not-nil i)
-below-of-member m (x ∷ l) w k (here e) = rw e (w .0)
-below-of-member m (x ∷ l) w k (there i) = below-of-member m l (w .1) k i
-
-pub refusal-below-ten : (t : Table) (c : Call) (k : ℕ) → step t c .answer ≡ Answer.Refused k → k < 10
-refusal-below-ten t c k e = below-of-member 10 (refusals c) (below-ten c) k (listed t c k e)

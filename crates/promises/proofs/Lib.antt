@@ -1,9 +1,6 @@
 pub mod AnsweredLaws
-pub mod DeskLaws
-pub mod JudgedLaws
-pub mod WrittenLaws
 pub mod KeptLaws
 pub mod Proved1
+pub mod ProvedUnique
 pub mod Proved2
 pub mod Proved3
-pub mod ProvedUnique

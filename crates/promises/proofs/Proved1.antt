@@ -1,50 +1,50 @@
 -- The promises of demand 1, each from laws further down. Assumes nothing.
-use mathlib.Core.Path.{_≡_, refl, sym, ap, subst, _∙_}
-use mathlib.Core.Bool.{true, cond}
+use mathlib.Core.Path.{_≡_, refl, sym, ap, _∙_}
 use mathlib.Core.List.{List, [], _∷_, _++_}
 use mathlib.Core.Logic.{_↔_, _⊎_, inl, inr}
-use mathlib.Core.Option.{none, some, Option·none-ne-some}
+use mathlib.Core.Option.{some, Option·none-ne-some, Option·some-injective}
 use Prim.Native.Nat.{ℕ, _+_, _≤_}
-use native.Mathlib.Omega.{arith}
 use lib.ListN.{length, take, drop}
 use lib.Seq.{take-at}
 use borrow.Author.Tests.{lt-leb}
 use Rattle.endian.specs.Laid.{laid}
 use Rattle.rows.specs.Reply.{Reply}
-use Rattle.rows.specs.Write.{Written, Written.bad, Written.noRoom, Written.noOrder, Written.written, writeResult}
+use Rattle.rows.specs.Write.{Written, Written.bad, Written.noRoom, Written.noOrder, Written.written}
 use Rattle.rows.proofs.WriteLaws.{write-result}
 use Rattle.wire.specs.declared.writer.WriteAnswer.{WriteAnswer}
+use Rattle.wire.specs.Message.{Message, opening, beginning, ticketing, preparing, aborting, deciding, forgetting, sweeping, proposing, ordering}
 use Rattle.wire.specs.Frame.{Next, nothing, cut, bad, whole, frameOf, nextFrame, Means, Bad, Cut}
-use Rattle.wire.specs.Stream.{Stream, ended, cutOff, framed, streamOf}
+use Rattle.wire.specs.Stream.{streamOf}
 use Rattle.wire.specs.Writing.{writeAnswer, leftBy}
 use Rattle.wire.specs.Body.{messageOf}
 use Rattle.wire.specs.Answers.{bodyAnswer, frameAnswer, readAnswer}
 use Rattle.wire.specs.Meaning.{BodyMeans, FrameMeans, ReadMeans, WriteMeans, writeRefusal}
+use Rattle.wire.proofs.BodyLaws.{message-of-body}
 use Rattle.wire.proofs.FrameLaws.{means-next, next-of-means}
 use Rattle.wire.proofs.StreamLaws.{stream-of-nothing, stream-of-cut, stream-of-bad, stream-of-whole}
 use Rattle.wire.proofs.MeaningLaws.{body-means, body-of-means, frame-means, frame-of-means, read-means, read-of-means, write-means, write-of-means}
 use Rattle.lines.specs.Line.{Line}
-use Rattle.lines.specs.Reading.{outputBytes}
 use Rattle.lines.proofs.LineLaws.{one-line}
 use Rattle.lines.proofs.ReadingLaws.{outputBytes-injective}
 use Rattle.method.specs.declared.Table as method
-use Rattle.method.specs.declared.Answer.{Answer}
+use Rattle.method.specs.Calls.{Call}
+use Rattle.method.specs.Calls.Call.{openWith, begin, reportTicket, reportPrepared, abort, decide, forget, sweep}
+use Rattle.method.specs.Effects.{step}
 use Rattle.method.proofs.RecordLaws.{never}
-use Rattle.method.proofs.CallLaws.{refused-keeps, refused-exactly}
+use Rattle.method.proofs.CallLaws.{refused-keeps as step-keeps, refused-exactly as step-refused}
 use Rattle.runs.proofs.FollowLaws.{follows, unknown-iff-over}
 use Rattle.table.specs.Shut.{shutTable}
-use Rattle.desk.specs.Desk.{deskBody}
-use Rattle.turns.specs.Lines.{linesOf, answerTo}
-use Rattle.turns.specs.Turn.{Turned, turn}
+use Rattle.desk.specs.Desk.{told, desk, deskBody}
+use Rattle.turns.specs.Lines.{linesOf}
+use Rattle.turns.specs.Turn.{turn}
 use Rattle.turns.proofs.PieceLaws.{turn-rest, pieces-whole}
 use Rattle.turns.proofs.PromptLaws.{turn-stops}
-use Rattle.promises.specs.Contracts.{WriteGives, MessageGives}
-use Rattle.promises.specs.Demand1.{Answered, RefusedKeeps, RefusedExactly, linesFor, OneLineEach}
+use Rattle.promises.specs.Demand1.{callOf, Serves, Answered, RefusedKeeps, RefusedExactly, linesFor, Lines}
 use Rattle.promises.proofs.AnsweredLaws.{step-answered}
-use Rattle.promises.proofs.DeskLaws.{body-keeps, ten-iff, desk-of-none, one-of-closed, four-of-open}
+use Rattle.desk.proofs.RefusalLaws.{body-keeps, ten-iff, desk-of-none, one-of-closed, four-of-open}
 
-pub every-call-answered : Answered
-every-call-answered t c a u (e, f) = rw e (step-answered (t .held) c)
+pub answered : Answered
+answered t c a u (e, f) = rw e (step-answered (t .held) c)
 
 -- refusals change nothing
 order-keeps : (flat : List ℕ) (place : ℕ) (out : List ℕ) (r : Reply) (after : List ℕ) → Written flat place out r after → (k : ℕ) → r ≡ Reply.refused k → after ≡ out
@@ -59,9 +59,9 @@ message-keeps b out place WriteAnswer.TooLong k e = refl
 message-keeps b out place WriteAnswer.Wrong k e = refl
 message-keeps b out place WriteAnswer.NoRoom k e = refl
 
-pub refusals-keep : RefusedKeeps
-refusals-keep = record {
-  calls = λ t c a u g k e. g .1 ∙ ap shutTable (refused-keeps (t .held) c k (sym (g .0) ∙ e));
+pub refused-keeps : RefusedKeeps
+refused-keeps = record {
+  calls = λ t c a u g k e. g .1 ∙ ap shutTable (step-keeps (t .held) c k (sym (g .0) ∙ e));
   orders = λ flat place out r after g k e. order-keeps flat place out _ after (rw (g .1) (write-result flat place out)) k (sym (g .0) ∙ e);
   messages = λ b out place r after g k e. g .1 ∙ message-keeps b out place (writeAnswer b out place) k (rw (g .0) at e);
   roomless = λ t b out place r after g h. let e = lt-leb (place + 358) (length out) h in (g .0 ∙ rw e, g .1 ∙ rw e, g .2 ∙ rw e);
@@ -72,9 +72,9 @@ refusals-keep = record {
 exactly : {A : Type 0} (Means : A → Type 0) (r x : A) → Means r → ((y : A) → Means y → r ≡ y) → (x ≡ r) ↔ Means x
 exactly Means r x h f = (λ e. rw e h, λ m. sym (f x m))
 
-pub refusals-exactly : RefusedExactly
-refusals-exactly = record {
-  calls = λ t c a u g k. rw (g .0) (refused-exactly (t .held) c k);
+pub refused-exactly : RefusedExactly
+refused-exactly = record {
+  calls = λ t c a u g k. rw (g .0) (step-refused (t .held) c k);
   unknown = unknown-iff-over;
   usedUp = λ r first floors o. let e = follows r .sequence first floors o in (λ u. sym e ∙ u, λ u. e ∙ u);
   bodies = λ b r w g x. rw g (exactly (BodyMeans b) (bodyAnswer (messageOf b)) x (body-means b w) (body-of-means b w));
@@ -85,6 +85,22 @@ refusals-exactly = record {
   one = one-of-closed;
   four = four-of-open;
 }
+
+serves-call : (t : method.Table) (m : Message) (c : Call) → callOf m ≡ some c → desk t m ≡ told (step t c)
+unfolding desk
+serves-call t (opening n fs) c e = rw (Option·some-injective (openWith n fs) c e)
+serves-call t (beginning s) c e = rw (Option·some-injective (begin s) c e)
+serves-call t (ticketing n s k) c e = rw (Option·some-injective (reportTicket n s k) c e)
+serves-call t (preparing n s) c e = rw (Option·some-injective (reportPrepared n s) c e)
+serves-call t (aborting n) c e = rw (Option·some-injective (abort n) c e)
+serves-call t (deciding n) c e = rw (Option·some-injective (decide n) c e)
+serves-call t (forgetting n) c e = rw (Option·some-injective (forget n) c e)
+serves-call t sweeping c e = rw (Option·some-injective sweep c e)
+serves-call t (proposing ns) c e = absurd (Option·none-ne-some c e)
+serves-call t ordering c e = absurd (Option·none-ne-some c e)
+
+pub serves : Serves
+serves t m c h e = rw (message-of-body m h) (serves-call t m c e)
 
 -- the lines of a stream, by what stands in front
 lines-of-whole : (t : method.Table) (b r : List ℕ) → length b ≤ 160 → linesFor t (frameOf b ++ r) ≡ deskBody t b .1 ∷ linesFor (deskBody t b .0) r
@@ -113,8 +129,8 @@ ways-of l = go (nextFrame l) (means-next l)
 front : (out w : List ℕ) → take (length w) (laid out 0 w) ≡ w
 front out w = take-at w (drop (0 + length w) out) (length w) refl
 
-pub one-line-each : OneLineEach
-one-line-each = record {
+pub lines : Lines
+lines = record {
   ways = ways-of;
   nothing = lines-of-nothing;
   message = lines-of-whole;

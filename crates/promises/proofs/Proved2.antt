@@ -1,11 +1,11 @@
 -- The promises of demand 2, each from laws further down. Assumes nothing.
-use mathlib.Core.Path.{_≡_, refl, sym, ap, subst, _∙_}
-use mathlib.Core.Bool.{true, false}
+use mathlib.Core.Path.{_≡_, refl, sym, ap, _∙_}
+use mathlib.Core.Bool.{true}
 use mathlib.Core.List.{List, _++_}
-use mathlib.Core.Logic.{_↔_, _≢_, _⊎_, inl, inr}
+use mathlib.Core.Logic.{_≢_, _⊎_, inl, inr}
 use Prim.Native.Nat.{ℕ, _+_, _<_}
 use native.Mathlib.Omega.{arith}
-use lib.ListN.{length, take, drop, length-set}
+use lib.ListN.{length, take, drop, length-set, length-map}
 use Rattle.graph.proofs.TestLaws.{true-or-false, true-not-false}
 use Rattle.graph.specs.Reached.{Reached}
 use Rattle.sites.specs.Sites.{sitesOf}
@@ -26,33 +26,32 @@ use Rattle.method.specs.declared.Row.{Row}
 use Rattle.method.specs.declared.Table.{Table}
 use Rattle.method.specs.declared.Answer.{Answer}
 use Rattle.method.specs.declared.Answered.{Answered}
-use Rattle.method.specs.Records.{freeRow, rowAt, highAt, Goes, withRow}
+use Rattle.method.specs.Records.{freeRow, rowAt, Goes, withRow}
 use Rattle.method.specs.Slots.{slotOf, rowOfNumber, kept}
 use Rattle.method.specs.Conditions.{Closed, Unknown, NotReady, HeldBack}
 use Rattle.method.specs.Calls.{rules}
 use Rattle.method.specs.Calls.Call.{decide, forget, sweep}
-use Rattle.method.specs.Effects.{committedRow, decided, stays, sweptTable, sweptCount, effect, step}
+use Rattle.method.specs.Effects.{committedRow, decided, stays, sweptRow, sweptTable, sweptCount, effect, step}
 use Rattle.method.proofs.RecordLaws.{never}
 use Rattle.method.proofs.RowLaws.{length-raised, raised-listed, raised-other}
 use Rattle.method.proofs.GraphLaws.{stays-iff}
 use Rattle.method.proofs.CallLaws.{Steps, Steps.stopped, Steps.passed, step-goes, done-exactly}
 use Rattle.runs.specs.Run.{after}
 use Rattle.runs.specs.History.{history}
-use Rattle.runs.specs.Sweeps.{ForgetAll, NoneToForget}
 use Rattle.runs.proofs.KnownLaws.{found, changed}
 use Rattle.runs.proofs.ChangeLaws.{there}
 use Rattle.runs.proofs.InvariantLaws.{invariant-run}
-use Rattle.runs.proofs.FollowLaws.{follows}
+use Rattle.runs.proofs.FollowLaws.{follows as run-follows, active-iff-begun, kept-iff-committed}
 use Rattle.runs.proofs.PlacedLaws.{placed}
 use Rattle.runs.proofs.PaperLaws.{forget-done-iff, forgotten-iff-paper}
 use Rattle.runs.proofs.SweepLaws.{kept-of-slot, slot-goes, slot-stays, slot-other}
-use Rattle.runs.proofs.ExactlyLaws.{commits-exactly, Decision.commits as no-cycle, Decision.cycles as a-cycle, sweep-counts}
+use Rattle.runs.proofs.ExactlyLaws.{commits-exactly as step-decides, Decision.commits as no-cycle, Decision.cycles as a-cycle, sweep-counts}
 use Rattle.runs.proofs.ForgetAllLaws.{forget-all}
 use Rattle.runs.proofs.NoneToForgetLaws.{none-to-forget}
-use Rattle.promises.specs.Demand2.{FollowsEveryRun, RestSame, Frees, CommitsRow, Decision, Decision.commits, Decision.cycles, CommitsExactly, SlotFound, ForgetsExactly, Sweeps, SweepsExactly, MessageBytes}
+use Rattle.promises.specs.Demand2.{FollowsEveryRun, Frees, CommitsRow, Decision, Decision.commits, Decision.cycles, CommitsExactly, SlotFound, ForgetsExactly, Sweeps, SweepsExactly, MessageBytes}
 
-pub follows-every-run : FollowsEveryRun
-follows-every-run r = record { follows = follows r; placed = placed r }
+pub follows : FollowsEveryRun
+follows r = record { follows = run-follows r; placed = placed r; active = active-iff-begun r; kept = kept-iff-committed r }
 
 -- a slot that was set
 module _ (t : Table) (i : ℕ) (h : i < length (t .rows)) (q : Row) where
@@ -89,13 +88,13 @@ commits-row t n e nu =
 
 decision : (t : Table) (n : ℕ) → length (t .high) ≡ 8 → ¬ Closed t → ¬ Unknown t n → ¬ NotReady (rowOfNumber t n) → Decision t n (step t (decide n) .answer) (step t (decide n) .table)
 unfolding rules decided
-decision t n e nc nu nr = elim (commits-exactly t n (nc, (nu, (nr, tt)))) [
+decision t n e nc nu nr = elim (step-decides t n (nc, (nu, (nr, tt)))) [
   | no-cycle f p ↦ rw p (commits f refl (commits-row t n e nu))
   | a-cycle f p ↦ rw p (cycles f refl (frees t (slotOf t n) (found t n nu .slot)))
 ]
 
-pub commits-exactly-when : CommitsExactly
-commits-exactly-when t n a u (p, q) e nc nu nr = rw (p, q) (decision (t .held) n e nc nu nr)
+pub commits-exactly : CommitsExactly
+commits-exactly t n a u (p, q) e nc nu nr = rw (p, q) (decision (t .held) n e nc nu nr)
 
 pub slot-found : SlotFound
 slot-found t n nu = let f = found t n nu in (f .used, f .named)
@@ -108,8 +107,8 @@ forget-frees t n e = go (step-goes t (forget n))
     go (stopped k f p q) = never (cc)
     go (passed (a, (b, x)) p) = rw p (frees t (slotOf t n) (found t n b .slot))
 
-pub forgets-exactly-when : ForgetsExactly
-forgets-exactly-when = record {
+pub forgets-exactly : ForgetsExactly
+forgets-exactly = record {
   rule = λ t n a u g nc nu cm. rw (g .0) (forget-done-iff (t .held) n nc nu cm);
   frees = λ t n a u g e. rw (g .1) (forget-frees (t .held) n (rw (g .0) at e));
   paper = forgotten-iff-paper;
@@ -133,6 +132,7 @@ unfolding effect
 sweeps t = record {
   rows = λ i c. swept-row t i c;
   others = slot-other t;
+  slots = length-map (t .rows) (sweptRow t);
   rest = record { sites = refl; last = refl; high = refl };
   count = (sweptCount t, refl, sweep-counts t);
 }

@@ -1,35 +1,31 @@
 -- The promises of demand 3, each from laws further down. Assumes nothing.
-use mathlib.Core.Path.{_≡_, refl, sym, ap, subst, _∙_}
-use mathlib.Core.Bool.{true, false, true≢false}
-use mathlib.Core.List.{List, _++_}
-use mathlib.Core.Logic.{_↔_, _≢_, inl, inr}
-use Prim.Native.Nat.{ℕ, _+_}
-use native.Mathlib.Omega.{arith}
+use mathlib.Core.Path.{_≡_, refl, sym, ap, _∙_}
+use mathlib.Core.Bool.{false, true≢false}
+use mathlib.Core.Logic.{_↔_, _≢_}
+use Prim.Native.Nat.{ℕ}
 use lib.Dec.{eqb}
-use lib.ListN.{length, take, drop}
 use borrow.Author.Tests.{eq-eqb}
-use Rattle.graph.specs.Smallest.{SmallestFirst}
-use Rattle.rows.specs.Rows.{numberOf, RowArrow, rowsOf}
+use Rattle.rows.specs.Rows.{rowsOf}
 use Rattle.rows.specs.Good.{GoodRows}
 use Rattle.rows.specs.Order.{InOrder}
 use Rattle.rows.specs.Reply.{Reply, checkReply, writeReply}
-use Rattle.rows.specs.Write.{Room, Written, Written.bad, Written.noRoom, Written.noOrder, Written.written}
+use Rattle.rows.specs.Write.{Written, Written.bad, Written.noRoom, Written.noOrder}
 use Rattle.rows.specs.CCall.{GoodBytes, OrderBytes, callResult}
 use Rattle.rows.specs.declared.CheckAnswer.{CheckAnswer}
 use Rattle.rows.specs.declared.WriteAnswer.{WriteAnswer}
 use Rattle.rows.proofs.ReplyLaws.{checkReply-injective, writeReply-injective, checked-of-result}
 use Rattle.rows.proofs.WriteLaws.{write-result}
 use Rattle.rows.proofs.CCallLaws.{call-result}
-use Rattle.method.specs.Slots.{keptRows, keptFlat}
 use Rattle.method.proofs.RecordLaws.{never}
 use Rattle.wire.specs.Stream.{streamOf}
-use Rattle.runs.specs.Run.{Run, Run.start, after}
+use Rattle.runs.specs.Run.{Run.start, after}
 use Rattle.runs.proofs.InvariantLaws.{history-apart, history-ordered}
 use Rattle.runs.proofs.ReportedLaws.{history-commits, history-reported}
-use Rattle.promises.specs.Demand3.{Checks, OrderCheck, CChecks, OrderCCheck, HasOrder, Writes, OrderWriter, History, KeptRows, NeverInStream}
-use Rattle.promises.proofs.WrittenLaws.{bad-written, no-room-written, no-order-written, wrote-written, written-of-order}
-use Rattle.promises.proofs.JudgedLaws.{bad-iff, yes-iff, no-iff}
-use Rattle.promises.proofs.KeptLaws.{body-never, desk-order, proposal-iff, run-good, run-rows, run-ordered, flat-ordered, never-in-lines}
+use Rattle.promises.specs.Demand3.{OrderCheck, CCall, OrderWriter, History, KeptRows, NeverInStream}
+use Rattle.rows.proofs.WriteIffLaws.{bad-written, no-room-written, no-order-written, wrote-written, written-of-order}
+use Rattle.rows.proofs.JudgedIffLaws.{bad-iff, yes-iff, no-iff}
+use Rattle.desk.proofs.OrderedLaws.{body-never, desk-order, proposal-iff}
+use Rattle.promises.proofs.KeptLaws.{run-good, run-rows, run-ordered, flat-ordered, never-in-lines}
 
 -- an answer by its reply
 by-reply : {A B : Type 0} {P : Type 0} (f : A → B) → ((a b : A) → f a ≡ f b → a ≡ b) → (r x : A) → (f r ≡ f x) ↔ P → (r ≡ x) ↔ P
@@ -50,8 +46,8 @@ order-check flat o r g =
 differ : (a b : ℕ) → eqb a b ≡ false → a ≢ b
 differ a b e f = true≢false (sym (eq-eqb a b f) ∙ e)
 
-pub order-ccheck : OrderCCheck
-order-ccheck rows o n g =
+pub c-call : CCall
+c-call rows o n g =
     let j = call-result rows o in
     let by = differ 13 1 refl in
     let bn = differ 13 0 refl in
@@ -76,8 +72,8 @@ order-writer flat place out r after g =
       order = λ n e. wrote-written flat place out (writeReply r) after w n (ap writeReply e) .2;
     }
 
-pub history-ordered-always : History
-history-ordered-always r = record { commits = history-commits r; tickets = history-reported r; apart = history-apart r; ordered = history-ordered r }
+pub history : History
+history r = record { commits = history-commits r; tickets = history-reported r; apart = history-apart r; ordered = history-ordered r }
 
 pub kept-rows : KeptRows
 kept-rows r = record {

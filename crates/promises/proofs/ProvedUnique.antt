@@ -1,5 +1,5 @@
 -- Every public contract leaves one result. Assumes nothing.
-use mathlib.Core.Path.{_≡_, refl, sym, _∙_}
+use mathlib.Core.Path.{_≡_, sym, _∙_}
 use Prim.Native.Nat.{ℕ}
 use Rattle.sites.proofs.ByteLaws.{eq-of-sites}
 use Rattle.square.proofs.AnswerLaws.{cycle-answer-unique, reached-answer-unique}
@@ -27,8 +27,8 @@ turn-is a b p q r s = let e : turnOf (a .table) (a .used) (a .written) (a .over)
 pub equal-leaves-one : EqualLeavesOne
 equal-leaves-one A f x y = same f x y
 
-pub one-answer : Unique
-one-answer = record {
+pub unique : Unique
+unique = record {
   calls = λ t c a b u v g h. (same _ a b (g .0) (h .0), same _ u v (g .1) (h .1));
   write = λ flat place out a b k l g h. (writeReply-injective a b (g .0 ∙ sym (h .0)), same _ k l (g .1) (h .1));
   message = λ body out place a b k l g h. (same _ a b (g .0) (h .0), same _ k l (g .1) (h .1));

@@ -4,7 +4,7 @@ use mathlib.Core.Path.{_≡_}
 use mathlib.Core.Bool.{Bool, true, false, cond}
 use mathlib.Core.List.{List, [], _∷_, _++_}
 use mathlib.Core.Logic.{_↔_, _≢_, _⊎_}
-use mathlib.Core.Option.{some}
+use mathlib.Core.Option.{Option, none, some}
 use Prim.Native.Nat.{ℕ, _+_, _-_, _<_, _≤_}
 use lib.ListN.{length, take, drop}
 use Rattle.endian.specs.Places.{Below}
@@ -15,7 +15,7 @@ use Rattle.wire.specs.declared.reader.BodyAnswer.{BodyAnswer}
 use Rattle.wire.specs.declared.reader.FrameAnswer.{FrameAnswer}
 use Rattle.wire.specs.declared.reader.ReadAnswer.{ReadAnswer}
 use Rattle.wire.specs.declared.writer.WriteAnswer as messages
-use Rattle.wire.specs.Message.{Message, InRange, bodyOf, opening}
+use Rattle.wire.specs.Message.{Message, InRange, bodyOf, opening, beginning, ticketing, preparing, aborting, deciding, forgetting, sweeping, proposing, ordering}
 use Rattle.wire.specs.Frame.{frameOf, Bad, Cut}
 use Rattle.wire.specs.Stream.{streamOf}
 use Rattle.wire.specs.Meaning.{NoBody, BodyMeans, FrameMeans, ReadMeans, WriteMeans, writeRefusal}
@@ -27,10 +27,11 @@ use Rattle.method.specs.Records.{number}
 use Rattle.method.specs.Conditions.{Closed, Unknown, UsedUp}
 use Rattle.method.specs.Calls.{Call, rules, FirstHolds}
 use Rattle.method.specs.Calls.Call.{openWith, begin, reportTicket, reportPrepared, abort, decide, forget, sweep}
+use Rattle.method.specs.Effects.{step}
 use Rattle.runs.specs.Run.{Run, after, Happened, Opens, BegunIn, Over, begins}
 use Rattle.table.specs.declared.Table.{Table}
 use Rattle.desk.specs.declared.Served.{Served}
-use Rattle.desk.specs.Desk.{deskBody}
+use Rattle.desk.specs.Desk.{answerLine, deskBody}
 use Rattle.turns.specs.declared.Turn.{Turn}
 use Rattle.turns.specs.Lines.{linesOf}
 use Rattle.turns.specs.Pieces.{joined, inPieces}
@@ -90,11 +91,28 @@ pub record RefusedExactly : Type 0 where
   pub one : (t : method.Table) (m : Message) → InRange m → ((n : ℕ) (fs : List ℕ) → m ≢ opening n fs) → Closed t → deskBody t (bodyOf m) ≡ (t, Line.refused 1)
   pub four : (t : method.Table) (n : ℕ) (fs : List ℕ) → InRange (opening n fs) → ¬ Closed t → deskBody t (bodyOf (opening n fs)) ≡ (t, Line.refused 4)
 
+-- each message is one call, but for the two on orders, of which Demand3 speaks
+abbrev pub callOf : Message → Option Call
+callOf (opening n fs) = some (openWith n fs)
+callOf (beginning s) = some (begin s)
+callOf (ticketing n s k) = some (reportTicket n s k)
+callOf (preparing n s) = some (reportPrepared n s)
+callOf (aborting n) = some (abort n)
+callOf (deciding n) = some (decide n)
+callOf (forgetting n) = some (forget n)
+callOf sweeping = some sweep
+callOf (proposing ns) = none
+callOf ordering = none
+
+-- its body leaves the table that the call leaves, and its line says the call's answer
+abbrev pub Serves : Type 0
+Serves = (t : method.Table) (m : Message) (c : Call) → InRange m → callOf m ≡ some c → deskBody t (bodyOf m) ≡ (step t c .table, answerLine (step t c .answer))
+
 -- the lines that the service writes for all that it reads, from a table on
 abbrev pub linesFor : method.Table → List ℕ → List Line
 linesFor t l = linesOf t (streamOf l)
 
-pub record OneLineEach : Type 0 where
+pub record Lines : Type 0 where
   -- what is read is empty, or has a frame in front, or is an 11: bad, or cut at the end of input
   pub ways : (l : List ℕ) → (l ≡ []) ⊎ (((b : List ℕ) × (r : List ℕ) × (length b ≤ 160) × (l ≡ frameOf b ++ r)) ⊎ (Bad l ⊎ Cut l))
   -- nothing left writes nothing; a message gets one line and reading goes on behind it, after 10 too; 11 is the last line

@@ -18,7 +18,7 @@ use Rattle.method.specs.Slots.{slotOf, rowOfNumber, kept}
 use Rattle.method.specs.Conditions.{Closed, Unknown, NotReady, HasPred, HeldBack}
 use Rattle.method.specs.Calls.Call.{decide, forget, sweep}
 use Rattle.method.specs.Effects.{step}
-use Rattle.runs.specs.Run.{Run, after, answerTo, Happened, Kept, Commits, CommitsBeside, Over}
+use Rattle.runs.specs.Run.{Run, after, answerTo, Happened, Active, Kept, Commits, CommitsBeside, Over, BegunIn}
 use Rattle.runs.specs.Follows.{Follows}
 use Rattle.runs.specs.Placed.{Placed}
 use Rattle.runs.specs.Sweeps.{freeSlots, ForgetAll, NoneToForget}
@@ -38,6 +38,9 @@ use Rattle.promises.specs.Contracts.{CallGives, ReadGives, MessageGives}
 pub record FollowsRun (r : Run) : Type 0 where
   pub follows : Follows r
   pub placed : Placed r
+  -- the active ones are those begun that are neither committed nor over; the kept ones those committed that are not over
+  pub active : (n : ℕ) → Active (after r) n ↔ (BegunIn r n × (¬ Happened (Commits n) r) × (¬ Over r n))
+  pub kept : (n : ℕ) → Kept (after r) n ↔ (Happened (Commits n) r × (¬ Over r n))
 
 abbrev pub FollowsEveryRun : Type 0
 FollowsEveryRun = (r : Run) → FollowsRun r
@@ -87,8 +90,8 @@ pub record ForgetsExactly : Type 0 where
       → ¬ Closed (t .held) → ¬ Unknown (t .held) n → rowOfNumber (t .held) n .state ≡ State.Committed
       → (a ≡ Answer.Done) ↔ ((¬ HasPred (t .held) (rowOfNumber (t .held) n)) × (¬ HeldBack (t .held) (rowOfNumber (t .held) n)))
   pub frees : (t : held.Table) (n : ℕ) (a : Answer) (u : held.Table) → CallGives t (forget n) a u → a ≡ Answer.Done → Frees (t .held) (u .held) (slotOf (t .held) n)
-  -- after every run: in the paper's words (Lemma 1). No kept one has an arrow to it, and whoever was active when it committed is
-  -- committed or over by now.
+  -- after every run: in the paper's words (Georgakopoulos, Rusinkiewicz and Sheth, Lemma 1). No kept one has an arrow to it, and whoever
+  -- was active when it committed is committed or over by now.
   pub paper : (r : Run) (n : ℕ) → Kept (after r) n
       → (answerTo r (forget n) ≡ Answer.Done) ↔ ((¬ HasPred (after r) (rowOfNumber (after r) n)) × ((m : ℕ) → Happened (CommitsBeside n m) r → Happened (Commits m) r ⊎ Over r m))
 
@@ -99,6 +102,7 @@ pub record Sweeps (t : Table) (a : Answer) (u : Table) : Type 0 where
       → (Reached Goes (HeldBack t) (kept t) (rowAt t i) × (rowAt u i ≡ rowAt t i)) ⊎ ((¬ Reached Goes (HeldBack t) (kept t) (rowAt t i)) × (rowAt u i ≡ freeRow))
   -- all else is as it was
   pub others : (i : ℕ) → rowAt t i .state ≢ State.Committed → rowAt u i ≡ rowAt t i
+  pub slots : length (u .rows) ≡ length (t .rows)
   pub rest : RestSame t u
   -- the answer is the number of slots freed
   pub count : (k : ℕ) × (a ≡ Answer.Swept k) × (freeSlots (u .rows) ≡ freeSlots (t .rows) + k)

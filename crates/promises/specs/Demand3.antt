@@ -44,8 +44,8 @@ pub record CChecks (rows o : List ℕ) (n : ℕ) : Type 0 where
   pub yes : (n ≡ 1) ↔ (GoodBytes rows × OrderBytes rows o)
   pub no : (n ≡ 0) ↔ (GoodBytes rows × (¬ OrderBytes rows o))
 
-abbrev pub OrderCCheck : Type 0
-OrderCCheck = (rows o : List ℕ) (n : ℕ) → CCheckGives rows o n → CChecks rows o n
+abbrev pub CCall : Type 0
+CCall = (rows o : List ℕ) (n : ℕ) → CCheckGives rows o n → CChecks rows o n
 
 -- some list is an order of the rows
 abbrev pub HasOrder : List ℕ → Type 0

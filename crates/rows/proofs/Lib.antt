@@ -7,3 +7,5 @@ pub mod WriteLaws
 pub mod CCallLaws
 pub mod WalkLaws
 pub mod ReplyLaws
+pub mod JudgedIffLaws
+pub mod WriteIffLaws

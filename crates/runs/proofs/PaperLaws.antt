@@ -1,7 +1,7 @@
 -- Forgetting in the paper's words (Georgakopoulos, Rusinkiewicz and Sheth, Lemma 1): a kept one is forgotten exactly if no kept one has an
 -- arrow to it and each that was active when it committed is committed or over by now. Assumes nothing.
-use mathlib.Core.Path.{_≡_, refl, sym, ap, subst, _∙_}
-use mathlib.Core.Logic.{_↔_, _≢_, _⊎_, inl, inr}
+use mathlib.Core.Path.{_≡_, refl, ap}
+use mathlib.Core.Logic.{_↔_, _⊎_, inl, inr}
 use Prim.Native.Nat.{ℕ}
 use native.Mathlib.Decide.{ℕ-discrete}
 use Rattle.method.specs.declared.State.{State}
@@ -17,9 +17,9 @@ use Rattle.method.specs.Calls.Call.{forget, sweep}
 use Rattle.method.specs.Effects.{step}
 use Rattle.method.proofs.RecordLaws.{never}
 use Rattle.method.proofs.CallLaws.{Steps, Steps.stopped, Steps.passed, step-goes}
-use Rattle.runs.specs.Run.{Run, after, answerTo, Happened, Known, Active, Kept, Commits, CommitsBeside, Over, BegunIn}
+use Rattle.runs.specs.Run.{Run, after, answerTo, Happened, Known, Active, Kept, Commits, CommitsBeside, Over}
 use Rattle.runs.specs.History.{history}
-use Rattle.runs.specs.Sound.{IsFree, IsActive, IsCommitted, num}
+use Rattle.runs.specs.Sound.{IsFree, IsCommitted}
 use Rattle.runs.proofs.ChangeLaws.{not-free}
 use Rattle.runs.proofs.InvariantLaws.{invariant-run}
 use Rattle.runs.proofs.KnownLaws.{found, known-iff}

@@ -1,19 +1,17 @@
 -- Transactions stand in the slot that they were given, a begin takes the lowest free one, and free slots are zeros. Assumes nothing.
-use mathlib.Core.Path.{_≡_, refl, sym, ap, subst, _∙_}
-use mathlib.Core.Bool.{Bool, true, false}
+use mathlib.Core.Path.{_≡_, sym}
 use mathlib.Core.List.{List}
-use mathlib.Core.Logic.{_⊎_, _≢_, inl, inr}
-use Prim.Native.Nat.{ℕ, _<_}
+use mathlib.Core.Logic.{_⊎_, inl, inr}
+use Prim.Native.Nat.{ℕ}
 use native.Mathlib.Omega.{arith}
 use native.Mathlib.Decide.{ℕ-discrete}
-use lib.ListN.{length}
 use Rattle.graph.proofs.TestLaws.{true-or-false, true-not-false}
 use Rattle.rows.specs.Rows
 use Rattle.method.specs.declared.Number.{Number}
 use Rattle.method.specs.declared.Row.{Row}
 use Rattle.method.specs.declared.Table.{Table}
 use Rattle.method.specs.declared.Answer.{Answer}
-use Rattle.method.specs.Records.{freeRow, pastEnd, rowAt, isFree}
+use Rattle.method.specs.Records.{pastEnd, rowAt, isFree}
 use Rattle.method.specs.Slots.{freeSlot}
 use Rattle.method.specs.Conditions.{Full}
 use Rattle.method.specs.Calls.{Call, rules}
@@ -22,7 +20,7 @@ use Rattle.method.specs.Effects.{newRow, reported, committedRow, effect, step}
 use Rattle.method.proofs.RecordLaws.{never, free-iff}
 use Rattle.method.proofs.SlotLaws.{first-lowest}
 use Rattle.method.proofs.CallLaws.{Steps, Steps.stopped, Steps.passed, step-goes}
-use Rattle.runs.specs.Run.{Run, Run.call, after, answerTo, Begins}
+use Rattle.runs.specs.Run.{Run, after, answerTo, Begins}
 use Rattle.runs.specs.History.{history}
 use Rattle.runs.specs.Sound.{IsFree, num}
 use Rattle.runs.specs.Invariant.{Invariant}

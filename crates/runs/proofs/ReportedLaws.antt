@@ -1,12 +1,11 @@
 -- The history has a row for each commit answer and no other, and each has the tickets that were reported for it. Assumes nothing.
-use mathlib.Core.Path.{_≡_, refl, sym, ap, subst, _∙_}
+use mathlib.Core.Path.{_≡_, refl, sym, ap, _∙_}
 use mathlib.Core.List.{List, _∷_, List·Memᴰ·head as here, List·Memᴰ·tail as there, List·Memᴰ·not-nil}
 use mathlib.Core.Logic.{_↔_, _⊎_, inl, inr}
 use Prim.Native.Nat.{ℕ, _<_}
 use Rattle.graph.specs.Lists.{_∈_}
 use Rattle.rows.specs.Arrow.{ticketAt}
 use Rattle.rows.specs.Rows
-use Rattle.method.specs.declared.Number.{Number}
 use Rattle.method.specs.declared.Table.{Table}
 use Rattle.method.specs.declared.Answer.{Answer}
 use Rattle.method.specs.Records.{number, rowAt}

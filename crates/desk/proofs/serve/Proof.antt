@@ -11,7 +11,7 @@ use Rattle.wire.specs.Answers.{bodyAnswer}
 use Rattle.wire.specs.Body.{messageOf}
 use Rattle.wire.proofs.RequestLaws.{none-of-wrong}
 use Rattle.desk.proofs.AskedLaws.{desk-of-ordering}
-use Rattle.desk.proofs.DeskLaws.{ten-of-no-message}
+use Rattle.desk.proofs.RefusalLaws.{ten-of-no-message}
 use Rattle.desk.proofs.ServedLaws.{serves-nothing, serves-line}
 use Rattle.desk.proofs.serve.Statement.{statement}
 use Rattle.desk.proofs.serve.Tie as tie

@@ -1,24 +1,23 @@
 -- Each answer of the order's writer is given exactly under its condition. Assumes nothing.
-use mathlib.Core.Path.{_≡_, refl, sym, ap, _∙_}
+use mathlib.Core.Path.{_≡_, sym, _∙_}
 use mathlib.Core.List.{List, _++_}
-use mathlib.Core.Logic.{_↔_, _≢_}
+use mathlib.Core.Logic.{_↔_}
 use Prim.Native.Nat.{ℕ, _+_}
 use native.Mathlib.Omega.{arith}
 use lib.ListN.{length, take, drop}
 use Rattle.graph.specs.Smallest.{SmallestFirst}
 use Rattle.rows.specs.Rows.{numberOf, RowArrow, rowsOf}
 use Rattle.rows.specs.Good.{GoodRows}
 use Rattle.rows.specs.Order.{InOrder}
 use Rattle.rows.specs.Reply.{Reply}
 use Rattle.rows.specs.Write.{Room, Written, Written.bad, Written.noRoom, Written.noOrder, Written.written}
-use Rattle.method.proofs.RecordLaws.{never}
 
 -- two refusals with different numbers, and a refusal and a success, are not one answer
 clash : {q : Reply} {i j : ℕ} → q ≡ Reply.refused i → q ≡ Reply.refused j → (i ≡ j → ⊥) → ⊥
 clash {q} {i} {j} e f n = n (let g : Reply.refused i ≡ Reply.refused j = sym e ∙ f in cc)
 
 refused-or-wrote : {q : Reply} {i j : ℕ} → q ≡ Reply.refused i → q ≡ Reply.wrote j → ⊥
-refused-or-wrote e f = never (cc)
+refused-or-wrote e f = let z : _≡_ {A = ℕ} 0 1 = cc in omega (arith, z)
 
 module _ (flat : List ℕ) (place : ℕ) (out : List ℕ) (q : Reply) (after : List ℕ) where
   abbrev W : Type 0

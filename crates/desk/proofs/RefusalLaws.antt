@@ -3,13 +3,12 @@ use mathlib.Core.Path.{_≡_, refl, sym, ap, _∙_}
 use mathlib.Core.Bool.{Bool, true, false, cond}
 use mathlib.Core.List.{List}
 use mathlib.Core.Logic.{_↔_, _≢_, _⊎_, inl, inr}
-use mathlib.Core.Option.{Option, none, some, Option·none-ne-some}
+use mathlib.Core.Option.{Option, none, some}
 use Prim.Native.Nat.{ℕ, _<_}
 use native.Mathlib.Omega.{arith}
 use Rattle.endian.specs.Places.{Below}
 use Rattle.graph.specs.Acyclic.{acyclic}
 use Rattle.graph.specs.Order.{greedy}
-use Rattle.graph.proofs.TestLaws.{true-or-false}
 use Rattle.rows.specs.Rows.{numberOf, rowArrowb, rowsOf}
 use Rattle.rows.specs.Good.{goodb}
 use Rattle.rows.specs.Order.{inOrderb}
@@ -21,17 +20,16 @@ use Rattle.wire.proofs.BodyLaws.{message-of-body, body-of-message, no-body-of-n
 use Rattle.lines.specs.Line.{Line}
 use Rattle.method.specs.declared.Table.{Table}
 use Rattle.method.specs.declared.Answer.{Answer}
-use Rattle.method.specs.declared.Answered.{Answered}
 use Rattle.method.specs.Slots.{keptFlat}
 use Rattle.method.specs.Conditions.{Closed, isClosed}
 use Rattle.method.specs.Calls.{Call, rules, FirstHolds}
 use Rattle.method.specs.Calls.Call.{openWith, begin, reportTicket, reportPrepared, abort, decide, forget, sweep}
-use Rattle.method.specs.Effects.{answered, step}
+use Rattle.method.specs.Effects.{step}
 use Rattle.method.proofs.RecordLaws.{never}
 use Rattle.method.proofs.ConditionLaws.{closed-iff}
 use Rattle.method.proofs.CallLaws.{refused-keeps, refused-exactly}
 use Rattle.desk.specs.Desk.{answerLine, told, proposalLine, orderLine, ifOpen, desk, deskRead, deskBody}
-use Rattle.promises.proofs.AnsweredLaws.{refusal-below-ten}
+use Rattle.method.proofs.ListedLaws.{refusal-below-ten}
 
 pub refused-of-line : (a : Answer) (k : ℕ) → answerLine a ≡ Line.refused k → a ≡ Answer.Refused k
 refused-of-line Answer.Done k e = never (cc)
@@ -95,6 +93,9 @@ module _ (t : Table) (k : ℕ) where
       go : (o : Option Message) → deskRead t o .1 ≡ Line.refused k → deskRead t o .0 ≡ t
       go none e = refl
       go (some m) e = desk-refuses m e .1
+
+pub ten-of-no-message : (t : Table) (b : List ℕ) → messageOf b ≡ none → deskBody t b ≡ (t, Line.refused 10)
+ten-of-no-message t b e = rw e
 
 -- 10 exactly if the body is no message's
 pub ten-iff : (t : Table) (b : List ℕ) → Below 256 b → (deskBody t b .1 ≡ Line.refused 10) ↔ NoBody b
