@@ -3,10 +3,12 @@ use mathlib.Core.Path.{_≡_, refl, sym, ap, _∙_}
 use mathlib.Core.Bool.{Bool, true, false, _||_}
 use mathlib.Core.List.{List, _∷_, List·Memᴰ·head as here, List·Memᴰ·tail as there}
 use mathlib.Core.Logic.{_⊎_, inl, inr}
-use Prim.Native.Nat.{ℕ, zero, suc, _+_, _*_, _/_, _%_, _<_}
+use Prim.Native.Nat.{ℕ, zero, suc, _+_, _*_, _<_, _≤_}
 use native.Mathlib.Omega.{arith}
 use lib.Dec.{eqb}
-use lib.ListN.{length, getD, replicate}
+use lib.ListN.{length, getD, replicate, set, length-set}
+use lib.Seq.{getD-set-same, getD-set-other}
+use borrow.Author.Count.{below-more}
 use borrow.Author.Tests.{eqb-true, eq-eqb}
 use Rattle.graph.specs.Lists.{_∈_}
 use Rattle.graph.proofs.TestLaws.{true-or-false}
@@ -15,15 +17,15 @@ use Rattle.graph.proofs.PlaceLaws.{member-of-place, place-of-member}
 use Rattle.rows.specs.Arrow.{ticketAt}
 use Rattle.square.specs.Square.{ticketRow}
 use Rattle.square.specs.Slotted.{Slotted}
-use Rattle.square.proofs.SlotLaws.{ticketRow-of-entries}
+use Rattle.square.proofs.SlotLaws.{ticketRow-of-entries, ticket-of-flat, length-ticketRow}
 use Rattle.method.specs.declared.Row.{Row}
 use Rattle.method.specs.declared.Table.{Table}
-use Rattle.method.specs.Records.{committed, pastEnd, rowAt, ticketsOf}
+use Rattle.method.specs.Records.{committed, pastEnd, rowAt, partAt, ticketsOf}
 use Rattle.method.specs.Slots.{kept}
 use Rattle.method.proofs.RowLaws.{ticket-part, length-tickets}
-use Rattle.kept.specs.Aligned.{takesPart, alignedRow, Aligned, alignedTicket}
+use Rattle.kept.specs.Aligned.{takesPart, alignedRow, Aligned, RowLaid, AlignedBelow}
 
-zeros : (n s : ℕ) → ticketAt (replicate n 0) s ≡ 0
+pub zeros : (n s : ℕ) → ticketAt (replicate n 0) s ≡ 0
 zeros zero s = refl
 zeros (suc n) zero = refl
 zeros (suc n) (suc s) = zeros n s
@@ -36,26 +38,65 @@ or-true false = refl
 abbrev pub In : Table → ℕ → ℕ → Row → Type 0
 In t chosen i a = (i < 32) × (rowAt t i ≡ a) × (takesPart t chosen i ≡ true)
 
-module _ (t : Table) (chosen : ℕ) (flat : List ℕ) where
-  -- laid down site by site
-  pub aligned-of-entries : length flat ≡ 256 → ((j : ℕ) → j < 256 → getD flat j 0 ≡ alignedTicket (rowAt t (j / 8)) (eqb (j / 8) chosen) (j % 8))
-      → ((i : ℕ) → i < 32 → length (rowAt t i .parts) ≡ 8) → Aligned t chosen flat
+-- one ticket more
+pub laid-none : {before : List ℕ} {i : ℕ} {r : Row} → length before ≡ 256 → RowLaid before i r 0 before
+laid-none e = record { size = e; own = λ s h. absurd (omega arith); low = λ k h. refl; high = λ k h. refl }
+
+pub laid-more : {before flat : List ℕ} {i : ℕ} {r : Row} {n : ℕ} → i < 32 → n < 8 → RowLaid before i r n flat
+    → RowLaid before i r (n + 1) (set flat (8 * i + n) (partAt r n .ticket .0))
+laid-more {before} {flat} {i} {r} {n} g h l = record {
+  size = simp length-set (l .size);
+  own = below-more (λ s. getD next (8 * i + s) 0 ≡ partAt r s .ticket .0) n (λ s k. other (8 * i + s) (λ e. omega arith) ∙ l .own s k)
+      (getD-set-same flat (8 * i + n) (partAt r n .ticket .0) 0 (rw (l .size) (omega arith)));
+  low = λ k m. other k (λ e. omega arith) ∙ l .low k m;
+  high = λ k m. other k (λ e. omega arith) ∙ l .high k (omega arith);
+}
+  where
+    next : List ℕ
+    next = set flat (8 * i + n) (partAt r n .ticket .0)
+
+    other : (k : ℕ) → (k ≡ 8 * i + n → ⊥) → getD next k 0 ≡ getD flat k 0
+    other k ne = getD-set-other flat (8 * i + n) k (partAt r n .ticket .0) 0 ne
+
+module _ (t : Table) (chosen : ℕ) where
+  pub aligned-none : {flat : List ℕ} → length flat ≡ 256 → ((k : ℕ) → getD flat k 0 ≡ 0) → AlignedBelow t chosen 0 flat
+  aligned-none e z = record { within = omega arith; size = e; done = λ j h. absurd (omega arith); left = λ k h. z k }
+
+  -- entries that stay leave their row
+  row-kept : (flat next : List ℕ) (j : ℕ) → j < 32 → length flat ≡ 256 → length next ≡ 256
+      → ((s : ℕ) → s < 8 → getD next (8 * j + s) 0 ≡ getD flat (8 * j + s) 0) → ticketRow next j ≡ ticketRow flat j
+  row-kept flat next j h e e' same =
+      ticketRow-of-entries next j (ticketRow flat j) e' h (length-ticketRow flat j e h) (λ s g. same s g ∙ sym (ticket-of-flat flat j s g))
+
+  pub aligned-laid : {flat next : List ℕ} {i : ℕ} → i < 32 → takesPart t chosen i ≡ true → length (rowAt t i .parts) ≡ 8
+      → AlignedBelow t chosen i flat → RowLaid flat i (rowAt t i) 8 next → AlignedBelow t chosen (i + 1) next
   unfolding alignedRow
-  aligned-of-entries size entry whole = record { size = size; each = λ i h. ticketRow-of-entries flat i (alignedRow t chosen i) size h (long i h) (site i h) }
+  aligned-laid {flat} {next} {i} g p w a l = record {
+    within = omega arith;
+    size = l .size;
+    done = below-more (λ j. ticketRow next j ≡ alignedRow t chosen j) i (λ j h. row-kept flat next j (omega arith) (a .size) (l .size) (λ s k. l .low (8 * j + s) (omega arith)) ∙ a .done j h) here;
+    left = λ k h. l .high k (omega arith) ∙ a .left k (omega arith);
+  }
     where
-      long : (i : ℕ) → i < 32 → length (alignedRow t chosen i) ≡ 8
-      long i h = elim (true-or-false (takesPart t chosen i)) [ inl e ↦ rw e (length-tickets (rowAt t i) ∙ whole i h) | inr e ↦ rw e ]
+      here : ticketRow next i ≡ alignedRow t chosen i
+      here = rw p (ticketRow-of-entries next i (ticketsOf (rowAt t i)) (l .size) g (length-tickets (rowAt t i) ∙ w) (λ s h. l .own s h ∙ sym (ticket-part (rowAt t i) s)))
 
-      site : (i : ℕ) → i < 32 → (s : ℕ) → s < 8 → getD flat (8 * i + s) 0 ≡ ticketAt (alignedRow t chosen i) s
-      site i h s l =
-          let d : (8 * i + s) / 8 ≡ i = omega arith in
-          let m : (8 * i + s) % 8 ≡ s = omega arith in
-          let e : getD flat (8 * i + s) 0 ≡ alignedTicket (rowAt t i) (eqb i chosen) s = rw (d, m) at (entry (8 * i + s) (omega arith)) in
-          elim (true-or-false (takesPart t chosen i)) [
-            | inl q ↦ e ∙ rw (q, ticket-part (rowAt t i) s)
-            | inr q ↦ e ∙ rw (q, zeros 8 s)
-          ]
+  pub aligned-skip : {flat : List ℕ} {i : ℕ} → i < 32 → takesPart t chosen i ≡ false → AlignedBelow t chosen i flat → AlignedBelow t chosen (i + 1) flat
+  unfolding alignedRow
+  aligned-skip {flat} {i} g p a = record {
+    within = omega arith;
+    size = a .size;
+    done = below-more (λ j. ticketRow flat j ≡ alignedRow t chosen j) i (a .done) here;
+    left = λ k h. a .left k (omega arith);
+  }
+    where
+      here : ticketRow flat i ≡ alignedRow t chosen i
+      here = rw p (ticketRow-of-entries flat i (replicate 8 0) (a .size) g refl (λ s h. a .left (8 * i + s) (omega arith) ∙ sym (zeros 8 s)))
 
+  pub aligned-all : {flat : List ℕ} {i : ℕ} → 32 ≤ i → AlignedBelow t chosen i flat → Aligned t chosen flat
+  aligned-all g a = record { size = a .size; each = λ j h. a .done j (omega arith) }
+
+module _ (t : Table) (chosen : ℕ) (flat : List ℕ) where
   slotted-of-aligned : (rs : List Row) → ((i : ℕ) (a : Row) → In t chosen i a → a ∈ rs) → ((a : Row) → a ∈ rs → (i : ℕ) × (i < 32) × In t chosen i a)
       → Aligned t chosen flat → Slotted ticketsOf rs (In t chosen) flat
   unfolding alignedRow

@@ -2,24 +2,22 @@
 ghost use mathlib.Core.Path.{_≡_};
 ghost use Prim.Native.Nat.{_<_};
 ghost use lib.ListN.{length};
-ghost use Rattle.kept.specs.Aligned.{alignedTicket, Aligned};
+ghost use Rattle.kept.specs.Aligned.{Aligned, RowLaid};
 use method::Row;
 use method::Table;
 
-// The ticket of a row at a site: 0 if the row is not committed and not the chosen one. A row has eight sites by its type; said
-// here, for callers.
-fn aligned_ticket(row: Row, chosen: bool, s: usize) -> u32
-    requires { ⌜ s < 8 ⌝ }
-    ensures answer { λ r. ⌜ r ≡ alignedTicket row chosen s ⌝ }
+// Lays the eight tickets of a row from entry 8 i on. A row has eight sites by its type; said here, for callers.
+fn lay_tickets(flat: &mut [u32; 256], i: usize, row: Row)
+    requires { ⌜ (i < 32) × (length (now flat) ≡ 256) ⌝ }
+    ensures flat { λ _. ⌜ RowLaid (now (flat .entry)) i row 8 (now (flat .exit)) ⌝ }
     ensures whole { λ _. ⌜ length (row .parts) ≡ 8 ⌝ }
 {
-    let state = row.state;
-    if chosen | slots::is_committed(state) {
+    let mut s: usize = 0;
+    while s < 8 {
         let p = row.parts[s];
         let k = p.ticket;
-        k.0
-    } else {
-        0
+        flat[8 * i + s] = k.0;
+        s += 1;
     }
 }
 
@@ -29,14 +27,14 @@ pub fn aligned(t: Table, chosen: usize) -> [u32; 256]
     ensures answer { λ r. ⌜ Aligned t chosen r ⌝ }
 {
     let mut flat = [0; 256];
-    let mut k: usize = 0;
-    while k < 256 {
-        let i = k / 8;
-        let s = k % 8;
+    let mut i: usize = 0;
+    while i < 32 {
         let row = t.rows[i];
-        let x = aligned_ticket(row, i == chosen, s);
-        flat[k] = x;
-        k += 1;
+        let state = row.state;
+        if (i == chosen) | slots::is_committed(state) {
+            lay_tickets(&mut flat, i, row);
+        }
+        i += 1;
     }
     flat
 }

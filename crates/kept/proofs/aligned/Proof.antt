@@ -1,64 +1,56 @@
--- `kept::aligned` meets its contract: place k holds site k % 8 of slot k / 8. Assumes nothing.
-use mathlib.Core.Path.{_≡_, refl}
-use Prim.Native.Nat.{ℕ, _*_, _-_, _/_, _%_, _<_, _≤_}
+-- `kept::aligned` meets its contract: after i turns the slots below i are laid down, and behind them all is zero. Assumes nothing.
+use mathlib.Core.Path.{refl, sym}
+use mathlib.Core.Logic.{⊎-elim}
+use Prim.Native.Nat.{_-_, _<_}
 use native.Mathlib.Omega.{arith}
-use lib.Dec.{eqb}
-use lib.ListN.{length}
 use borrow.Author.Needs.{needs}
-use Rattle.square.specs.Passed.{Passed}
-use Rattle.square.proofs.PassedLaws.{passed-none, passed-set}
-use Rattle.method.specs.declared.Table.{Table}
-use Rattle.method.specs.Records.{rowAt}
-use Rattle.kept.specs.Aligned.{alignedTicket}
-use Rattle.kept.proofs.AlignedLaws.{aligned-of-entries}
+use Rattle.kept.specs.Aligned.{AlignedBelow}
+use Rattle.kept.proofs.AlignedLaws.{zeros, aligned-none, aligned-laid, aligned-skip, aligned-all}
 use Rattle.kept.proofs.aligned.Statement.{statement}
 use Rattle.kept.proofs.aligned.Tie as tie
 
-abbrev entry : Table → ℕ → ℕ → ℕ
-entry t chosen k = alignedTicket (rowAt t (k / 8)) (eqb (k / 8) chosen) (k % 8)
-
 abbrev Inv-loop : tie.InvT-loop
-Inv-loop chosen t flat₀ k₀ flat k = Passed 256 0 (λ j x. (x ≡ entry t chosen j) × (length (rowAt t (j / 8) .parts) ≡ 8)) (λ j x. Unit {0}) flat k
+Inv-loop chosen t flat₀ i₀ flat i = AlignedBelow t chosen i flat
 
 abbrev μ-loop : tie.MeasureT-loop
-μ-loop chosen t flat₀ k₀ flat k = 256 - k
+μ-loop chosen t flat₀ i₀ flat i = 32 - i
 
 loop-holds : tie.Need-loop-holds Inv-loop μ-loop
-loop-holds c = passed-none refl (λ j h. tt)
+loop-holds c = aligned-none (c .args .t1) (c .args .chosen) refl (zeros 256)
 
 mul-row : tie.Need-mul-row Inv-loop μ-loop
-mul-row c = omega arith
+mul-row c = search needs
 
 element-copy-out-row : tie.Need-element-copy-out-row Inv-loop μ-loop
-element-copy-out-row c = omega arith
+element-copy-out-row c = search needs
 
-aligned-ticket-requires : tie.Need-aligned-ticket-requires Inv-loop μ-loop
-aligned-ticket-requires c κs = omega arith
+is-committed-requires : tie.Need-is-committed-requires Inv-loop μ-loop
+is-committed-requires c κs = search needs
 
-mul-flat : tie.Need-mul-flat Inv-loop μ-loop
-mul-flat c = search needs
+lay-tickets-requires : tie.Need-lay-tickets-requires Inv-loop μ-loop
+lay-tickets-requires c κs = (search needs, c .before .before .before .before .before .loop .inv .size)
 
-array-write-flat : tie.Need-array-write-flat Inv-loop μ-loop
-array-write-flat c = omega arith
-
-add-k : tie.Need-add-k Inv-loop μ-loop
-add-k c = search needs
+add-i : tie.Need-add-i Inv-loop μ-loop
+add-i c = search needs
 
 loop-less : tie.Need-loop-less Inv-loop μ-loop
 loop-less c = search needs
 
 loop-again : tie.Need-loop-again Inv-loop μ-loop
-loop-again c = passed-set (omega arith) (c .before .before .before .loop .inv) (c .aligned-ticket .ensures)
-
--- all rows were seen
-whole : (l : tie.At-loop Inv-loop μ-loop) → 256 ≤ l .loop .k → (i : ℕ) → i < 32 → length (rowAt (l .before .args .t1) i .parts) ≡ 8
-whole l g i h = let d : 8 * i / 8 ≡ i = omega arith in rw d at (l .loop .inv .done (8 * i) (omega arith) .1)
+loop-again c =
+    let l = c .before .before .before .before in
+    let a = l .before .args in
+    let below : l .loop .i < 32 = omega arith in
+    let is = sym (c .before .is-committed .ensures) in
+    ⊎-elim
+    (λ w. rw (w .3) (aligned-laid (a .t1) (a .chosen) below (rw is (w .0 .taken)) (w .2 .ensures .1) (l .loop .inv) (w .2 .ensures .0)))
+    (λ w. rw (w .1) (aligned-skip (a .t1) (a .chosen) below (rw is (w .0 .left)) (l .loop .inv)))
+    (c .if1 .came)
 
 returns : tie.Need-returns Inv-loop μ-loop
 returns c =
     let l = c .before in
-    let a = l .before .args in
-    aligned-of-entries (a .t1) (a .chosen) (l .loop .flat) (l .loop .inv .size) (λ j h. l .loop .inv .done j (omega arith) .0) (whole l (c .loop-test .left))
+    aligned-all (l .before .args .t1) (l .before .args .chosen) (c .loop-test .left) (l .loop .inv)
 
 pub aligned-spec : {M : Type 1} → statement M
 aligned-spec =
@@ -69,10 +61,9 @@ aligned-spec =
     loop-holds
     mul-row
     element-copy-out-row
-    aligned-ticket-requires
-    mul-flat
-    array-write-flat
-    add-k
+    is-committed-requires
+    lay-tickets-requires
+    add-i
     loop-less
     loop-again
     returns)
