@@ -1,9 +1,8 @@
 // Sweep: every kept row goes that no path of arrows reaches from a row that is held back. RULES, Forgetting.
 ghost use mathlib.Core.Path.{_≡_};
-ghost use mathlib.Core.Bool.{cond, _&&_};
+ghost use mathlib.Core.Bool.{cond};
 ghost use lib.ListN.{length};
-ghost use Rattle.method.specs.Records.{committed, freeRow};
-ghost use Rattle.method.specs.Conditions.{heldBack};
+ghost use Rattle.method.specs.Records.{freeRow};
 ghost use Rattle.method.specs.Calls.Call.{sweep as sweepCall};
 ghost use Rattle.method.specs.Effects.{effect, step};
 ghost use Rattle.sweeps.specs.Marks.{HeldMarks, StayMarks, goes as goesAway};
@@ -12,18 +11,7 @@ use method::Answered;
 use method::Row;
 use method::Table;
 
-// A kept row that an active transaction holds back.
-fn is_held(t: Table, row: Row) -> bool
-    ensures answer { λ r. ⌜ r ≡ committed row && heldBack t row ⌝ }
-{
-    let state = row.state;
-    if slots::is_committed(state) {
-        rivals::is_held_back(t, row)
-    } else {
-        false
-    }
-}
-
+// The kept rows that an active transaction holds back. Slots without one are passed by.
 fn held(t: Table) -> [bool; 32]
     ensures answer { λ r. ⌜ HeldMarks t r ⌝ }
 {
@@ -31,8 +19,11 @@ fn held(t: Table) -> [bool; 32]
     let mut i: usize = 0;
     while i < 32 {
         let row = t.rows[i];
-        let b = is_held(t, row);
-        marks[i] = b;
+        let state = row.state;
+        if slots::is_committed(state) {
+            let b = rivals::is_held_back(t, row);
+            marks[i] = b;
+        }
         i += 1;
     }
     marks
