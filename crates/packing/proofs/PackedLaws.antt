@@ -77,12 +77,12 @@ laid-entries l at r h w =
     ∙ laid-of-laid l (x ∷ []) at (omega arith) ts
 
 module _ (rs : List Row) (r : Row) (size : length (flat rs) ≡ 9 * count rs) where
-  pub size-grow : length (r .parts) ≡ 8 → length (flat (rs ++ (r ∷ []))) ≡ 9 * count (rs ++ (r ∷ []))
-  size-grow h = rw (flat-snoc rs r, count-snoc rs r) (go (committed r))
+  pub size-grow : (committed r ≡ true → length (r .parts) ≡ 8) → length (flat (rs ++ (r ∷ []))) ≡ 9 * count (rs ++ (r ∷ []))
+  size-grow h = rw (flat-snoc rs r, count-snoc rs r) (go (committed r) refl)
     where
-      go : (b : Bool) → length (flat rs ++ cond b (entries r) []) ≡ 9 * (count rs + cond b 1 0)
-      go true = simp length-append (omega (arith, size, length-entries r h))
-      go false = simp length-append (omega (arith, size))
+      go : (b : Bool) → committed r ≡ b → length (flat rs ++ cond b (entries r) []) ≡ 9 * (count rs + cond b 1 0)
+      go true e = simp length-append (omega (arith, size, length-entries r (h e)))
+      go false e = simp length-append (omega (arith, size))
 
   pub packed-grow : length rs < 32 → packedRows (rs ++ (r ∷ [])) ≡ grown (packedRows rs) r
   unfolding packedRows
@@ -95,6 +95,14 @@ module _ (rs : List Row) (r : Row) (size : length (flat rs) ≡ 9 * count rs) wh
           let joined = laid-of-laid zeros (flat rs) 0 (omega (arith, size, length-keep-le committed rs)) (entries r) in
           ap (keptOf (count rs + 1)) (sym joined ∙ ap (λ (k : ℕ). laid (laid zeros 0 (flat rs)) k (entries r)) e)
       go false = rw (append-nil (flat rs), add-zero (count rs))
+
+  -- a turn that lays a row down, and one that passes it by
+  pub packed-more : {n : ℕ} {rows : List ℕ} → length rs < 32 → committed r ≡ true → keptOf n rows ≡ packedRows rs
+      → keptOf (n + 1) (laid rows (9 * n) (entries r)) ≡ packedRows (rs ++ (r ∷ []))
+  packed-more h c k = sym (packed-grow h ∙ rw (sym k, c))
+
+  pub packed-same : {n : ℕ} {rows : List ℕ} → length rs < 32 → committed r ≡ false → keptOf n rows ≡ packedRows rs → keptOf n rows ≡ packedRows (rs ++ (r ∷ []))
+  packed-same h c k = sym (packed-grow h ∙ rw (sym k, c))
 
 -- no rows, and all of them
 pub packed-none : keptOf 0 zeros ≡ packedRows []

@@ -14,59 +14,42 @@ pub struct Kept {
     pub rows: [u32; 288],
 }
 
-// The flat table with one row's nine entries from the place on. A row has eight sites by its type; said here, for callers.
-fn with_entries(flat: [u32; 288], at: usize, row: Row) -> [u32; 288]
-    requires { ⌜ (length flat ≡ 288) × (at + 9 ≤ 288) ⌝ }
-    ensures answer { λ r. ⌜ r ≡ laid flat at (entries row) ⌝ }
+// Lays one row's nine entries from the place on. A row has eight sites by its type; said here, for callers.
+fn lay_entries(flat: &mut [u32; 288], at: usize, row: Row)
+    requires { ⌜ (length (now flat) ≡ 288) × (at + 9 ≤ 288) ⌝ }
+    ensures flat { λ _. ⌜ now (flat .exit) ≡ laid (now (flat .entry)) at (entries row) ⌝ }
+    ensures size { λ _. ⌜ length (now (flat .exit)) ≡ 288 ⌝ }
     ensures whole { λ _. ⌜ length (row .parts) ≡ 8 ⌝ }
 {
-    let mut rows = flat;
     let number = row.number;
-    rows[at] = number.0;
+    flat[at] = number.0;
     let mut s: usize = 0;
     while s < 8 {
         let p = row.parts[s];
         let k = p.ticket;
-        rows[at + 1 + s] = k.0;
+        flat[at + 1 + s] = k.0;
         s += 1;
     }
-    rows
-}
-
-fn with_row(k: Kept, row: Row) -> Kept
-    requires { ⌜ k .count < 32 ⌝ }
-    ensures answer { λ r. ⌜ r ≡ grown k row ⌝ }
-    ensures whole { λ _. ⌜ length (row .parts) ≡ 8 ⌝ }
-{
-    let state = row.state;
-    if slots::is_committed(state) {
-        let n = k.count;
-        let flat = k.rows;
-        let rows = with_entries(flat, 9 * n, row);
-        let next = n + 1;
-        return Kept {
-            count: next,
-            rows: rows,
-        };
-    }
-    k
 }
 
 pub fn packed(t: Table) -> Kept
     ensures answer { λ r. ⌜ r ≡ packedOf t ⌝ }
     ensures whole { λ r. ⌜ length (keptFlat t) ≡ 9 * r .count ⌝ }
 {
-    let none = [0; 288];
-    let mut k = Kept {
-        count: 0,
-        rows: none,
-    };
+    let mut rows = [0; 288];
+    let mut n: usize = 0;
     let mut i: usize = 0;
     while i < 32 {
         let row = t.rows[i];
-        let grown = with_row(k, row);
-        k = grown;
+        let state = row.state;
+        if slots::is_committed(state) {
+            lay_entries(&mut rows, 9 * n, row);
+            n += 1;
+        }
         i += 1;
     }
-    k
+    Kept {
+        count: n,
+        rows: rows,
+    }
 }
