@@ -127,7 +127,7 @@ def heavy(messages):
     def sites():
         nonlocal turn
         turn += 1
-        return sorted((turn + k * k) % 8 for k in (0, 1, 2)) + [] if turn % 2 else sorted({turn % 8, (turn + 3) % 8, (turn + 5) % 8, (turn + 6) % 8})
+        return sorted((turn + k) % 8 for k in (0, 1, 3, 6))
 
     def asked():
         job.say(ORDER, propose(job.kept), propose(job.kept[1:] + job.kept[:1]))
@@ -169,7 +169,7 @@ def hostile(messages):
         ][turn % 22]
 
     while len(job.out) < messages:
-        before = job.commit_all = []
+        before = []
         for _ in range(6):
             n = job.begin((0, 1, 2, 3))
             older = before[-1] if before else 0
@@ -209,7 +209,6 @@ def calls():
     full = ready + decides
     good = propose(list(numbers))
     none = propose(list(numbers)[1:] + [1])
-    # the last one in front: the whole list is looked through
     return [
         ("open", [], start, 1),
         ("open, refused", start, start * 100, 100),
@@ -234,15 +233,13 @@ def growth(kept):
     """With so many kept: one decide; sweeps that find all held back by one who is active; a sweep that frees all."""
     out, numbers = chain(kept + 1)
     committed = out + [decide(n) for n in numbers[:-1]]
-    job = Job(8)
-    job.begin((0,))
-    for _ in range(kept):
-        job.commit(ALL)
-    free = Job(8)
-    for _ in range(kept):
-        free.commit(ALL)
+    held, free = Job(8), Job(8)
+    held.begin((0,))
+    for job in (held, free):
+        for _ in range(kept):
+            job.commit(ALL)
     return [
         ("decide", committed, [decide(numbers[-1])], 1),
-        ("sweep, all held", job.out, [SWEEP] * 20, 20),
+        ("sweep, all held", held.out, [SWEEP] * 20, 20),
         ("sweep, all go", free.out, [SWEEP], 1),
     ]
