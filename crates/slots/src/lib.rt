@@ -2,9 +2,10 @@
 // RULES, The table.
 ghost use mathlib.Core.Path.{_≡_};
 ghost use Rattle.method.specs.Records.{isFree, isActive, isCommitted, freeRow, withRow};
-ghost use Rattle.method.specs.Slots.{hasNumber, slotOf, freeSlot};
+ghost use Rattle.method.specs.Slots.{firstAt, hasNumber, freeSlot};
 ghost use Rattle.method.specs.Effects.{answered};
 ghost use Rattle.slots.specs.Gate.{gateOf};
+ghost use Rattle.slots.specs.Suiting.{suiting};
 use method::Answer;
 use method::Answered;
 use method::Number;
@@ -75,13 +76,26 @@ fn has_number(r: Row, n: Number) -> bool
     number.0 == n.0
 }
 
-fn find(t: Table, n: Number) -> usize
-    ensures answer { λ r. ⌜ r ≡ slotOf t (n .0) ⌝ }
+// Is the row what is looked for: a free one, or the one that has the number?
+fn suits(r: Row, free: bool, n: Number) -> bool
+    ensures answer { λ b. ⌜ b ≡ suiting free (n .0) r ⌝ }
+{
+    if free {
+        let state = r.state;
+        return is_free(state);
+    }
+    has_number(r, n)
+}
+
+// The first slot that suits. One loop for both searches, so that it stays a function of its own: where the compiler takes it into a
+// caller, it reads 32 places one by one there, and then copies whole tables in as many pieces.
+fn first(t: Table, free: bool, n: Number) -> usize
+    ensures answer { λ r. ⌜ r ≡ firstAt (suiting free (n .0)) (t .rows) ⌝ }
 {
     let mut i: usize = 0;
     while i < 32 {
         let row = t.rows[i];
-        if has_number(row, n) {
+        if suits(row, free, n) {
             return i;
         }
         i += 1;
@@ -101,7 +115,7 @@ pub fn enter(t: Table, n: Number) -> Gate
     if t.sites == 0 {
         return Gate::Refused(1);
     }
-    let slot = find(t, n);
+    let slot = first(t, false, n);
     if slot == 32 {
         return Gate::Refused(2);
     }
@@ -111,16 +125,7 @@ pub fn enter(t: Table, n: Number) -> Gate
 pub fn lowest_free(t: Table) -> usize
     ensures answer { λ r. ⌜ r ≡ freeSlot t ⌝ }
 {
-    let mut i: usize = 0;
-    while i < 32 {
-        let row = t.rows[i];
-        let state = row.state;
-        if is_free(state) {
-            return i;
-        }
-        i += 1;
-    }
-    32
+    first(t, true, Number(0))
 }
 
 // A refusal leaves the table as it is.
