@@ -53,7 +53,7 @@ fn is_ready(row: Row) -> bool
     ensures answer { λ r. ⌜ r ≡ not (notReady row) ⌝ }
 {
     let state = row.state;
-    if !slots::is_active(state) {
+    if !records::is_active(state) {
         return false;
     }
     let x = row.sites;
@@ -116,7 +116,7 @@ fn cancel(t: Table, slot: usize, n: Number) -> Answered
     requires { ⌜ slot < 32 ⌝ }
     ensures answer { λ r. ⌜ r ≡ cancelling t slot (n .0) ⌝ }
 {
-    let r = slots::without(t, slot);
+    let r = records::without(t, slot);
     let freed = r.table;
     Answered {
         table: freed,
@@ -128,11 +128,11 @@ pub fn decide(t: Table, n: Number) -> Answered
     ensures answer { λ r. ⌜ r ≡ step t (decideCall (n .0)) ⌝ }
 {
     match slots::enter(t, n) {
-        Gate::Refused(k) => slots::refuse(t, k),
+        Gate::Refused(k) => records::refuse(t, k),
         Gate::At(slot) => {
             let row = t.rows[slot];
             if !is_ready(row) {
-                return slots::refuse(t, 4);
+                return records::refuse(t, 4);
             }
             let flat = kept::aligned(t, slot);
             if square::has_cycle(flat) {

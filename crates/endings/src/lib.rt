@@ -11,14 +11,14 @@ pub fn abort(t: Table, n: Number) -> Answered
     ensures answer { λ r. ⌜ r ≡ step t (abortCall (n .0)) ⌝ }
 {
     match slots::enter(t, n) {
-        Gate::Refused(k) => slots::refuse(t, k),
+        Gate::Refused(k) => records::refuse(t, k),
         Gate::At(slot) => {
             let row = t.rows[slot];
             let state = row.state;
-            if !slots::is_active(state) {
-                return slots::refuse(t, 4);
+            if !records::is_active(state) {
+                return records::refuse(t, 4);
             }
-            slots::without(t, slot)
+            records::without(t, slot)
         }
     }
 }
@@ -27,20 +27,20 @@ pub fn forget(t: Table, n: Number) -> Answered
     ensures answer { λ r. ⌜ r ≡ step t (forgetCall (n .0)) ⌝ }
 {
     match slots::enter(t, n) {
-        Gate::Refused(k) => slots::refuse(t, k),
+        Gate::Refused(k) => records::refuse(t, k),
         Gate::At(slot) => {
             let row = t.rows[slot];
             let state = row.state;
-            if !slots::is_committed(state) {
-                return slots::refuse(t, 4);
+            if !records::is_committed(state) {
+                return records::refuse(t, 4);
             }
             if rivals::has_pred(t, row) {
-                return slots::refuse(t, 9);
+                return records::refuse(t, 9);
             }
             if rivals::is_held_back(t, row) {
-                return slots::refuse(t, 9);
+                return records::refuse(t, 9);
             }
-            slots::without(t, slot)
+            records::without(t, slot)
         }
     }
 }

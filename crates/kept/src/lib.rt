@@ -31,7 +31,7 @@ pub fn aligned(t: Table, chosen: usize) -> [u32; 256]
     while i < 32 {
         let row = t.rows[i];
         let state = row.state;
-        if (i == chosen) | slots::is_committed(state) {
+        if (i == chosen) | records::is_committed(state) {
             lay_tickets(&mut flat, i, row);
         }
         i += 1;

@@ -42,7 +42,7 @@ pub fn packed(t: Table) -> Kept
     while i < 32 {
         let row = t.rows[i];
         let state = row.state;
-        if slots::is_committed(state) {
+        if records::is_committed(state) {
             lay_entries(&mut rows, 9 * n, row);
             n += 1;
         }

@@ -22,9 +22,9 @@ use Rattle.method.proofs.CheckLaws.{stopped, unstopped}
 use Rattle.slots.specs.declared.Gate.{Gate}
 use Rattle.slots.specs.Gate.{gateOf}
 use Rattle.slots.proofs.GateLaws.{Passed, gate-refused, gate-passed}
-use Rattle.reports.specs.declared.Place.{Place}
-use Rattle.reports.specs.Place.{placeOf}
-use Rattle.reports.proofs.PlaceLaws.{Placed, place-refused, place-passed, reported-at}
+use Rattle.stages.specs.declared.Place.{Place}
+use Rattle.stages.specs.Place.{placeOf}
+use Rattle.stages.proofs.PlaceLaws.{Placed, place-refused, place-passed, reported-at}
 
 -- the checks that both reports begin with
 abbrev pub shared : Table → ℕ → ℕ → Report → List (ℕ × Bool) → List (ℕ × Bool)

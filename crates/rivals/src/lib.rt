@@ -40,7 +40,7 @@ fn points_to(q: Row, r: Row) -> bool
     ensures answer { λ b. ⌜ b ≡ committed q && goesb q r ⌝ }
 {
     let state = q.state;
-    if slots::is_committed(state) {
+    if records::is_committed(state) {
         goes_before(q, r)
     } else {
         false
@@ -51,7 +51,7 @@ fn is_older(a: Row, r: Row) -> bool
     ensures answer { λ b. ⌜ b ≡ active a && leb (a .number .0) (r .last .0) ⌝ }
 {
     let state = a.state;
-    if slots::is_active(state) {
+    if records::is_active(state) {
         let n = a.number;
         let l = r.last;
         n.0 <= l.0
@@ -105,7 +105,7 @@ fn holds_other(r: Row, n: Number, s: usize, k: Ticket) -> bool
     ensures answer { λ b. ⌜ b ≡ holdsOther (n .0) s (k .0) r ⌝ }
 {
     let state = r.state;
-    if slots::is_free(state) {
+    if records::is_free(state) {
         return false;
     }
     let number = r.number;

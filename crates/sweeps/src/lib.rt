@@ -20,7 +20,7 @@ fn held(t: Table) -> [bool; 32]
     while i < 32 {
         let row = t.rows[i];
         let state = row.state;
-        if slots::is_committed(state) {
+        if records::is_committed(state) {
             let b = rivals::is_held_back(t, row);
             marks[i] = b;
         }
@@ -36,7 +36,7 @@ fn goes(row: Row, stays: bool) -> bool
     if stays {
         false
     } else {
-        slots::is_committed(state)
+        records::is_committed(state)
     }
 }
 
@@ -44,7 +44,7 @@ fn left_of(row: Row, stays: bool) -> Row
     ensures answer { λ r. ⌜ r ≡ cond (goesAway row stays) freeRow row ⌝ }
 {
     if goes(row, stays) {
-        slots::free_row()
+        records::free_row()
     } else {
         row
     }
@@ -82,7 +82,7 @@ pub fn sweep(t: Table) -> Answered
     ensures answer { λ r. ⌜ r ≡ step t sweepCall ⌝ }
 {
     if t.sites == 0 {
-        return slots::refuse(t, 1);
+        return records::refuse(t, 1);
     }
     let flat = kept::aligned(t, 32);
     let marks = held(t);

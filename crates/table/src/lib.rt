@@ -59,7 +59,7 @@ pub fn begin(t: Table, sites: u8) -> Answered
     ensures table { λ r. ⌜ r .table ≡ tableAfter t (beginCall sites) ⌝ }
 {
     let held = t.held;
-    let a = openings::begin(held, sites);
+    let a = beginnings::begin(held, sites);
     shut(a)
 }
 

@@ -44,7 +44,7 @@ module _ (c : tie.After-known-told2) where
   passed : Passed t n (c .before .slot .given .0 .0) (rest t n)
   passed =
       let l : length (t .rows) ≡ 32 = search (needs, unmapped) in
-      let e : gateOf t n ≡ Gate.At (c .before .slot .given .0 .0) = cc in
+      let e : gateOf t n ≡ Gate.At (c .before .slot .given .0 .0) = sym (c .before .before .before .enter .ensures) ∙ c .before .slot .given .1 in
       gate-passed t l n (c .before .slot .given .0 .0) (rest t n) e
 
 mul-row : tie.Need-mul-row
@@ -71,8 +71,9 @@ without-requires c κs = search needs
 returns-2 : tie.Need-returns-2
 unfolding step act checks
 returns-2 c =
-    let a = c .before .before .before .before .before .args in
-    let e : gateOf (a .t1) (a .n .0) ≡ Gate.Refused (c .before .before .k .given .0 .0) = cc in
+    let g = c .before .before .before .before in
+    let a = g .before .args in
+    let e : gateOf (a .t1) (a .n .0) ≡ Gate.Refused (c .before .before .k .given .0 .0) = sym (g .enter .ensures) ∙ c .before .before .k .given .1 in
     c .refuse .ensures ∙ sym (rw (gate-refused (a .t1) (a .n .0) _ (rest (a .t1) (a .n .0)) e))
 
 returns-3 : tie.Need-returns-3

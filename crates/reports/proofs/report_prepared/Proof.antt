@@ -18,8 +18,8 @@ use Rattle.method.specs.Effects.{answered, reported, effect}
 use Rattle.method.proofs.SearchLaws.{unmapped}
 use Rattle.slots.specs.declared.Gate.{Gate}
 use Rattle.slots.specs.Gate.{gateOf}
-use Rattle.reports.specs.declared.Place.{Place}
-use Rattle.reports.specs.Place.{placeOf}
+use Rattle.stages.specs.declared.Place.{Place}
+use Rattle.stages.specs.Place.{placeOf}
 use Rattle.reports.proofs.ReportLaws.{shared, report-unknown, report-inside, report-misplaced, report-site, report-done}
 use Rattle.reports.proofs.report_prepared.Statement.{statement}
 use Rattle.reports.proofs.report_prepared.Tie as tie

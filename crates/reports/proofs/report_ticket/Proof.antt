@@ -20,8 +20,8 @@ use Rattle.method.proofs.SearchLaws.{unmapped}
 use Rattle.method.proofs.CheckLaws.{stopped}
 use Rattle.slots.specs.declared.Gate.{Gate}
 use Rattle.slots.specs.Gate.{gateOf}
-use Rattle.reports.specs.declared.Place.{Place}
-use Rattle.reports.specs.Place.{placeOf}
+use Rattle.stages.specs.declared.Place.{Place}
+use Rattle.stages.specs.Place.{placeOf}
 use Rattle.reports.proofs.ReportLaws.{report-unknown, report-inside, report-misplaced, report-site, report-on, report-base, report-done}
 use Rattle.reports.proofs.TicketLaws.{own, ticket-checks, ticket-below, ticket-rival, ticket-free}
 use Rattle.reports.proofs.report_ticket.Statement.{statement}

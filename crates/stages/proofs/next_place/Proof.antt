@@ -1,4 +1,4 @@
--- `reports::next_place` meets its contract. Assumes nothing.
+-- `stages::next_place` meets its contract. Assumes nothing.
 use mathlib.Core.Path.{_≡_, sym, _∙_}
 use mathlib.Core.Bool.{true}
 use borrow.Author.Needs.{needs}
@@ -8,9 +8,9 @@ use Rattle.sites.proofs.SitesLaws.{lt-of-listed}
 use Rattle.method.specs.declared.Step.{Step}
 use Rattle.method.specs.Records.{partAt}
 use Rattle.method.specs.Stages.{stepOf}
-use Rattle.reports.specs.Place.{placeOf}
-use Rattle.reports.proofs.next_place.Statement.{statement}
-use Rattle.reports.proofs.next_place.Tie as tie
+use Rattle.stages.specs.Place.{placeOf}
+use Rattle.stages.proofs.next_place.Statement.{statement}
+use Rattle.stages.proofs.next_place.Tie as tie
 
 has-site-requires : tie.Need-has-site-requires
 has-site-requires c κs = search needs
@@ -41,14 +41,14 @@ returns-2 : tie.Need-returns-2
 unfolding placeOf
 returns-2 c =
     let a = c .before .before .before .before .before .before .before .args in
-    let e : stepOf (partAt (a .t1) (a .s) .stage) (a .p) ≡ Step.To (c .before .g .given .0 .0) = cc in
+    let e : stepOf (partAt (a .t1) (a .s) .stage) (a .p) ≡ Step.To (c .before .g .given .0 .0) = sym (c .before .before .before .next-step .ensures) ∙ c .before .g .given .1 in
     sym (rw (is-listed (c .before .before .before .before .before), e))
 
 returns-3 : tie.Need-returns-3
 unfolding placeOf
 returns-3 c =
     let a = c .before .before .before .before .before .before .args in
-    let e : stepOf (partAt (a .t1) (a .s) .stage) (a .p) ≡ Step.Refused = cc in
+    let e : stepOf (partAt (a .t1) (a .s) .stage) (a .p) ≡ Step.Refused = sym (c .before .before .next-step .ensures) ∙ c .enum-told .given .1 in
     sym (rw (is-listed (c .before .before .before .before), e))
 
 pub next-place-spec : {M : Type 1} → statement M

@@ -1,9 +1,9 @@
--- `openings::begun` meets its contract. Assumes nothing.
+-- `beginnings::begun` meets its contract. Assumes nothing.
 use borrow.Author.Needs.{needs}
 use Rattle.method.specs.Effects.{newRow}
 use Rattle.method.proofs.SearchLaws.{unmapped}
-use Rattle.openings.proofs.begun.Statement.{statement}
-use Rattle.openings.proofs.begun.Tie as tie
+use Rattle.beginnings.proofs.begun.Statement.{statement}
+use Rattle.beginnings.proofs.begun.Tie as tie
 
 add-t10 : tie.Need-add-t10
 add-t10 c = search needs

@@ -22,8 +22,8 @@ use Rattle.method.specs.Slots.{slotOf, rowOfNumber}
 use Rattle.method.specs.Conditions.{notListed, noStep}
 use Rattle.method.specs.Calls.{firstTrue}
 use Rattle.method.specs.Effects.{answered, reported}
-use Rattle.reports.specs.declared.Place.{Place}
-use Rattle.reports.specs.Place.{stepPlace, placeOf}
+use Rattle.stages.specs.declared.Place.{Place}
+use Rattle.stages.specs.Place.{stepPlace, placeOf}
 use Rattle.method.proofs.RecordLaws.{never}
 
 -- the checks 3 and 4 of a report, by the place that it leads to

@@ -1,4 +1,4 @@
--- `openings::begin` meets its contract: each way out is one of the laws on begin. Assumes nothing.
+-- `beginnings::begin` meets its contract: each way out is one of the laws on begin. Assumes nothing.
 use mathlib.Core.Path.{_≡_, sym, _∙_}
 use mathlib.Core.Bool.{false}
 use Prim.Native.Nat.{ℕ}
@@ -10,9 +10,9 @@ use Rattle.method.specs.Slots.{freeSlot}
 use Rattle.method.specs.Conditions.{badSites}
 use Rattle.method.proofs.SearchLaws.{unmapped}
 use Rattle.method.proofs.CheckLaws.{room-of-slot}
-use Rattle.openings.proofs.BeginLaws.{begin-closed, begin-badly, begin-used-up, begin-full, begin-done}
-use Rattle.openings.proofs.begin.Statement.{statement}
-use Rattle.openings.proofs.begin.Tie as tie
+use Rattle.beginnings.proofs.BeginLaws.{begin-closed, begin-badly, begin-used-up, begin-full, begin-done}
+use Rattle.beginnings.proofs.begin.Statement.{statement}
+use Rattle.beginnings.proofs.begin.Tie as tie
 
 refuse-requires : tie.Need-refuse-requires
 refuse-requires c κs = search needs

@@ -1,4 +1,4 @@
--- `openings::based` meets its contract: what the sites that are left would make of the parts so far is what all sites make of none.
+-- `beginnings::based` meets its contract: what the sites that are left would make of the parts so far is what all sites make of none.
 -- Assumes nothing.
 use mathlib.Core.Path.{_≡_, refl, sym, _∙_}
 use Prim.Native.Nat.{_<_}
@@ -9,8 +9,8 @@ use Rattle.sites.specs.Sites.{sitesOf, Turn}
 use Rattle.sites.proofs.ByteLaws.{turn, sites-zero}
 use Rattle.method.specs.Records.{noPart}
 use Rattle.method.specs.Effects.{based}
-use Rattle.openings.proofs.based.Statement.{statement}
-use Rattle.openings.proofs.based.Tie as tie
+use Rattle.beginnings.proofs.based.Statement.{statement}
+use Rattle.beginnings.proofs.based.Tie as tie
 
 abbrev Inv-loop : tie.InvT-loop
 Inv-loop x high parts₀ left₀ parts left =

@@ -1,7 +1,7 @@
 -- The checks 3 and 4 of a report, as the code makes them. proofs/PlaceLaws.antt joins them to the checks of crate `method`.
 use mathlib.Core.Bool.{cond}
 use Prim.Native.Nat.{ℕ}
-use Rattle.reports.specs.declared.Place.{Place}
+use Rattle.stages.specs.declared.Place.{Place}
 use Rattle.method.specs.declared.Report.{Report}
 use Rattle.method.specs.declared.Step.{Step}
 use Rattle.method.specs.declared.Row.{Row}

@@ -1,4 +1,4 @@
--- `reports::next_step` meets its contract: the table's six entries are the definition's six cases. Assumes nothing.
+-- `stages::next_step` meets its contract: the table's six entries are the definition's six cases. Assumes nothing.
 use mathlib.Core.Path.{_≡_, refl}
 use mathlib.Core.List.{List, [], _∷_}
 use lib.ListN.{getD}
@@ -7,8 +7,8 @@ use Rattle.method.specs.declared.Stage.{Stage}
 use Rattle.method.specs.declared.Report.{Report}
 use Rattle.method.specs.declared.Step.{Step}
 use Rattle.method.specs.Stages.{stepOf, stageNo, reportNo}
-use Rattle.reports.proofs.next_step.Statement.{statement}
-use Rattle.reports.proofs.next_step.Tie as tie
+use Rattle.stages.proofs.next_step.Statement.{statement}
+use Rattle.stages.proofs.next_step.Tie as tie
 
 abbrev steps : List (List Step)
 steps = (Step.To Stage.Ticketed ∷ Step.Refused ∷ []) ∷ (Step.Refused ∷ Step.To Stage.Prepared ∷ []) ∷ (Step.Refused ∷ Step.Refused ∷ []) ∷ []

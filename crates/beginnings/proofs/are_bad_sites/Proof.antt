@@ -1,9 +1,9 @@
--- `openings::are_bad_sites` meets its contract. Assumes nothing.
+-- `beginnings::are_bad_sites` meets its contract. Assumes nothing.
 use mathlib.Core.Path.{sym, _∙_}
 use borrow.Author.Needs.{needs}
-use Rattle.openings.proofs.BeginLaws.{bad-of-empty, bad-of-outside}
-use Rattle.openings.proofs.are_bad_sites.Statement.{statement}
-use Rattle.openings.proofs.are_bad_sites.Tie as tie
+use Rattle.beginnings.proofs.BeginLaws.{bad-of-empty, bad-of-outside}
+use Rattle.beginnings.proofs.are_bad_sites.Statement.{statement}
+use Rattle.beginnings.proofs.are_bad_sites.Tie as tie
 
 returns : tie.Need-returns
 returns c = let a = c .before .args in sym (bad-of-empty (a .t) (a .x) (c .if1 .taken))

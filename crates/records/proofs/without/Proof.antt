@@ -1,4 +1,4 @@
--- `slots::without` meets its contract. Assumes nothing.
+-- `records::without` meets its contract. Assumes nothing.
 use mathlib.Core.Path.{_≡_, sym, ap}
 use mathlib.Core.List.{List}
 use native.Mathlib.Omega.{arith}
@@ -10,8 +10,8 @@ use Rattle.method.specs.declared.Row.{Row}
 use Rattle.method.specs.declared.Answer.{Answer}
 use Rattle.method.specs.Records.{freeRow, withRows}
 use Rattle.method.specs.Effects.{answered}
-use Rattle.slots.proofs.without.Statement.{statement}
-use Rattle.slots.proofs.without.Tie as tie
+use Rattle.records.proofs.without.Statement.{statement}
+use Rattle.records.proofs.without.Tie as tie
 
 returns : tie.Need-returns
 returns c =
