@@ -1,2 +1,1 @@
-pub mod ReadyLaws
 pub mod DecideLaws

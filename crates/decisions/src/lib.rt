@@ -1,88 +1,16 @@
 // Decide: a fully prepared transaction commits if it makes no cycle among the kept committed ones. RULES, Graph and decision.
 ghost use mathlib.Core.Path.{_≡_};
-ghost use mathlib.Core.Bool.{not};
-ghost use Prim.Native.Nat.{_<_, max};
-ghost use lib.ListN.{length};
-ghost use Rattle.graph.specs.Lists.{keep};
-ghost use Rattle.sites.specs.Sites.{sitesOf};
-ghost use Rattle.method.specs.Records.{ticket, isPrepared, partAt};
-ghost use Rattle.method.specs.Conditions.{notReady};
-ghost use Rattle.decisions.specs.Counted.{counted};
-ghost use Rattle.decisions.specs.Ways.{committing, cancelling};
+ghost use Prim.Native.Nat.{_<_};
 ghost use Rattle.method.specs.Calls.Call.{decide as decideCall};
-ghost use Rattle.method.specs.Effects.{raised as raisedTickets, step};
+ghost use Rattle.method.specs.Effects.{step};
+ghost use Rattle.decisions.specs.Ways.{committing, cancelling};
 use method::Answer;
 use method::Answered;
 use method::Number;
 use method::Row;
-use method::Stage;
 use method::State;
 use method::Table;
-use method::Ticket;
 use slots::Gate;
-
-// A prepared site counts 1, any other 0.
-fn counts(g: Stage) -> u32
-    ensures answer { λ r. ⌜ r ≡ counted g ⌝ }
-{
-    match g {
-        Stage::Begun => 0,
-        Stage::Ticketed => 0,
-        Stage::Prepared => 1,
-    }
-}
-
-// How many of its sites are prepared.
-fn prepared_sites(row: Row) -> u32
-    ensures answer { λ r. ⌜ r ≡ length (keep (λ s. isPrepared (partAt row s .stage)) (sitesOf (row .sites))) ⌝ }
-{
-    let mut n: u32 = 0;
-    let mut left = row.sites;
-    while left != 0 {
-        let s = u8::trailing_zeros(left) as usize;
-        let p = row.parts[s];
-        let g = p.stage;
-        n += counts(g);
-        left = left & (left - 1);
-    }
-    n
-}
-
-// Active, and as many sites prepared as it uses.
-fn is_ready(row: Row) -> bool
-    ensures answer { λ r. ⌜ r ≡ not (notReady row) ⌝ }
-{
-    let state = row.state;
-    if !records::is_active(state) {
-        return false;
-    }
-    let x = row.sites;
-    prepared_sites(row) == sites::used(x)
-}
-
-fn higher(a: Ticket, b: Ticket) -> Ticket
-    ensures answer { λ r. ⌜ r ≡ ticket (max (a .0) (b .0)) ⌝ }
-{
-    if a.0 < b.0 { b } else { a }
-}
-
-// The highest tickets, raised at the row's sites to its own.
-fn raised(high: [Ticket; 8], row: Row) -> [Ticket; 8]
-    requires { ⌜ length high ≡ 8 ⌝ }
-    ensures answer { λ r. ⌜ r ≡ raisedTickets row (sitesOf (row .sites)) high ⌝ }
-{
-    let mut tops = high;
-    let mut left = row.sites;
-    while left != 0 {
-        let s = u8::trailing_zeros(left) as usize;
-        let p = row.parts[s];
-        let k = p.ticket;
-        let h = higher(tops[s], k);
-        tops[s] = h;
-        left = left & (left - 1);
-    }
-    tops
-}
 
 // The row is committed and records the last number begun, and the highest tickets of its sites rise.
 fn commit(t: Table, slot: usize, n: Number) -> Answered
@@ -94,7 +22,7 @@ fn commit(t: Table, slot: usize, n: Number) -> Answered
     let x = row.sites;
     let parts = row.parts;
     let last = t.last;
-    let high = raised(t.high, row);
+    let high = walks::raised(t.high, row);
     let done = Row {
         state: State::Committed,
         number: number,
@@ -131,7 +59,7 @@ pub fn decide(t: Table, n: Number) -> Answered
         Gate::Refused(k) => records::refuse(t, k),
         Gate::At(slot) => {
             let row = t.rows[slot];
-            if !is_ready(row) {
+            if !walks::is_ready(row) {
                 return records::refuse(t, 4);
             }
             let flat = kept::aligned(t, slot);

@@ -1,4 +1,4 @@
--- `decisions::raised` meets its contract: what the sites that are left would make of the tickets so far is what all sites make of
+-- `walks::raised` meets its contract: what the sites that are left would make of the tickets so far is what all sites make of
 -- those at hand. Assumes nothing.
 use mathlib.Core.Path.{_≡_, refl, sym, _∙_}
 use Prim.Native.Nat.{_<_}
@@ -8,8 +8,9 @@ use borrow.Author.Needs.{needs}
 use Rattle.sites.specs.Sites.{sitesOf, Turn}
 use Rattle.sites.proofs.ByteLaws.{turn, sites-zero}
 use Rattle.method.specs.Effects.{raised}
-use Rattle.decisions.proofs.raised.Statement.{statement}
-use Rattle.decisions.proofs.raised.Tie as tie
+use Rattle.method.proofs.SearchLaws.{unmapped}
+use Rattle.walks.proofs.raised.Statement.{statement}
+use Rattle.walks.proofs.raised.Tie as tie
 
 abbrev Inv-loop : tie.InvT-loop
 Inv-loop row tops₀ left₀ tops left = (left < 256) × (raised row (sitesOf (row .sites)) tops₀ ≡ raised row (sitesOf left) tops) × (length tops ≡ 8)
@@ -18,7 +19,7 @@ abbrev μ-loop : tie.MeasureT-loop
 μ-loop row tops₀ left₀ tops left = left
 
 loop-holds : tie.Need-loop-holds Inv-loop μ-loop
-loop-holds c = (search needs, refl, search needs)
+loop-holds c = (search needs, refl, search (needs, unmapped))
 
 at : (c : tie.In-loop Inv-loop μ-loop) → Turn (c .before .loop .left)
 at c = turn (c .before .loop .left) (c .loop-test .taken) (c .before .loop .inv .0)

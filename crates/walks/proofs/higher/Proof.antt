@@ -1,10 +1,10 @@
--- `decisions::higher` meets its contract. Assumes nothing.
+-- `walks::higher` meets its contract. Assumes nothing.
 use mathlib.Core.Path.{ap}
 use native.Mathlib.Omega.{arith}
 use Rattle.method.specs.declared.Ticket.{Ticket}
 use Rattle.method.specs.Records.{ticket}
-use Rattle.decisions.proofs.higher.Statement.{statement}
-use Rattle.decisions.proofs.higher.Tie as tie
+use Rattle.walks.proofs.higher.Statement.{statement}
+use Rattle.walks.proofs.higher.Tie as tie
 
 returns : tie.Need-returns
 returns c = ap {B = Ticket} ticket (omega arith)

@@ -14,7 +14,7 @@ use Rattle.method.specs.declared.Stage.{Stage}
 use Rattle.method.specs.declared.Row.{Row}
 use Rattle.method.specs.Records.{isPrepared, partAt, active}
 use Rattle.method.specs.Conditions.{unprepared, notReady}
-use Rattle.decisions.specs.Counted.{counted}
+use Rattle.walks.specs.Counted.{counted}
 
 abbrev pub prepared : Row → List ℕ → ℕ
 prepared r l = length (keep (λ s. isPrepared (partAt r s .stage)) l)

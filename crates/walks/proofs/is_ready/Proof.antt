@@ -1,10 +1,10 @@
--- `decisions::is_ready` meets its contract. Assumes nothing.
+-- `walks::is_ready` meets its contract. Assumes nothing.
 use mathlib.Core.Path.{sym, _∙_}
 use borrow.Author.Needs.{needs}
 use borrow.Author.Tests.{not-false}
-use Rattle.decisions.proofs.ReadyLaws.{ready-of-counts}
-use Rattle.decisions.proofs.is_ready.Statement.{statement}
-use Rattle.decisions.proofs.is_ready.Tie as tie
+use Rattle.walks.proofs.ReadyLaws.{ready-of-counts}
+use Rattle.walks.proofs.is_ready.Statement.{statement}
+use Rattle.walks.proofs.is_ready.Tie as tie
 
 is-active-requires : tie.Need-is-active-requires
 is-active-requires c κs = search needs

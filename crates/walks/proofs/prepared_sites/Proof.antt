@@ -1,4 +1,4 @@
--- `decisions::prepared_sites` meets its contract: those counted and those among the sites that are left make up all. Assumes nothing.
+-- `walks::prepared_sites` meets its contract: those counted and those among the sites that are left make up all. Assumes nothing.
 use mathlib.Core.Path.{_≡_}
 use Prim.Native.Nat.{suc, _+_, _-_, _<_, _≤_}
 use native.Mathlib.Omega.{arith}
@@ -10,10 +10,10 @@ use Rattle.sites.specs.Sites.{sitesOf, Turn}
 use Rattle.sites.proofs.SitesLaws.{used-le}
 use Rattle.sites.proofs.ByteLaws.{turn, sites-zero}
 use Rattle.method.specs.Records.{partAt}
-use Rattle.decisions.specs.Counted.{counted}
-use Rattle.decisions.proofs.ReadyLaws.{prepared, counted-le, prepared-more}
-use Rattle.decisions.proofs.prepared_sites.Statement.{statement}
-use Rattle.decisions.proofs.prepared_sites.Tie as tie
+use Rattle.walks.specs.Counted.{counted}
+use Rattle.walks.proofs.ReadyLaws.{prepared, counted-le, prepared-more}
+use Rattle.walks.proofs.prepared_sites.Statement.{statement}
+use Rattle.walks.proofs.prepared_sites.Tie as tie
 
 abbrev Inv-loop : tie.InvT-loop
 Inv-loop row n₀ left₀ n left = (left < 256) × (n + prepared row (sitesOf left) ≡ prepared row (sitesOf (row .sites))) × (n + length (sitesOf left) ≤ 8)
