@@ -1,8 +1,8 @@
-// Big-endian numbers in byte slices, read and written at a place. Every function takes any place: past the end a reader
-// finds zeros and a writer refuses. Rests on specs/Places.antt and specs/Laid.antt.
+// Big-endian numbers read from a byte slice, and bytes laid into one, at a place. Every function takes any place: past the end a
+// reader finds zeros and the writer refuses. Rests on specs/Places.antt and specs/Laid.antt.
 ghost use mathlib.Core.Path.{_≡_};
 ghost use lib.ListN.{length, getD};
-ghost use Rattle.endian.specs.Bytes.{be16, be32, bytes16, bytes32, words};
+ghost use Rattle.endian.specs.Bytes.{be16, be32, words};
 ghost use Rattle.endian.specs.Places.{word16, word32};
 ghost use Rattle.endian.specs.Laid.{hasRoom, stored};
 
@@ -80,25 +80,4 @@ pub fn put(out: &mut [u8], at: usize, bytes: &[u8]) -> bool
         i += 1;
     }
     true
-}
-
-pub fn put16(out: &mut [u8], at: usize, x: u16) -> bool
-    ensures answer { λ r. ⌜ r ≡ hasRoom (now (out .entry)) at 2 ⌝ }
-    ensures buffer { λ _. ⌜ now (out .exit) ≡ stored (now (out .entry)) at (bytes16 x) ⌝ }
-{
-    let bytes = [(x / 256) as u8, (x % 256) as u8];
-    put(out, at, &bytes)
-}
-
-pub fn put32(out: &mut [u8], at: usize, x: u32) -> bool
-    ensures answer { λ r. ⌜ r ≡ hasRoom (now (out .entry)) at 4 ⌝ }
-    ensures buffer { λ _. ⌜ now (out .exit) ≡ stored (now (out .entry)) at (bytes32 x) ⌝ }
-{
-    let bytes = [
-        (x / 16777216) as u8,
-        (x / 65536 % 256) as u8,
-        (x / 256 % 256) as u8,
-        (x % 256) as u8,
-    ];
-    put(out, at, &bytes)
 }

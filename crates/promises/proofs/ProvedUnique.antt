@@ -1,7 +1,6 @@
 -- Every public contract leaves one result. Assumes nothing.
 use mathlib.Core.Path.{_≡_, sym, _∙_}
 use Prim.Native.Nat.{ℕ}
-use Rattle.sites.proofs.ByteLaws.{eq-of-sites}
 use Rattle.square.proofs.AnswerLaws.{cycle-answer-unique, reached-answer-unique}
 use Rattle.kept.proofs.OneListLaws.{aligned-unique}
 use Rattle.rows.proofs.ReplyLaws.{writeReply-injective, check-answer-unique}
@@ -40,5 +39,4 @@ unique = record {
   cycle = cycle-answer-unique;
   reached = reached-answer-unique;
   aligned = aligned-unique;
-  lowest = λ x a b p q g h. eq-of-sites a b p q (g ∙ sym h);
 }

@@ -3,9 +3,7 @@
 use mathlib.Core.Path.{_≡_}
 use mathlib.Core.Bool.{Bool}
 use mathlib.Core.List.{List}
-use Prim.Native.Nat.{ℕ, _<_}
-use lib.ListN.{drop}
-use Rattle.sites.specs.Sites.{sitesOf}
+use Prim.Native.Nat.{ℕ}
 use Rattle.square.specs.Square.{TellsCycle, TellsReached}
 use Rattle.kept.specs.Aligned.{Aligned}
 use Rattle.rows.specs.declared.CheckAnswer.{CheckAnswer}
@@ -36,9 +34,8 @@ pub record Unique : Type 0 where
       → OrderGives numbers count out place a k → OrderGives numbers count out place b l → (a ≡ b) × (k ≡ l)
   pub serve : (t : Table) (body out : List ℕ) (place : ℕ) (a b : Served) (k l : List ℕ) → ServeGives t body out place a k → ServeGives t body out place b l → (a ≡ b) × (k ≡ l)
   pub turn : (t : Table) (input : List ℕ) (last : Bool) (out : List ℕ) (a b : Turn) (k l : List ℕ) → TurnGives t input last out a k → TurnGives t input last out b l → (a ≡ b) × (k ≡ l)
-  -- contracts that say it in other ways: checker::check, square::has_cycle and square::reached, kept::aligned, sites::without_lowest
+  -- contracts that say it in other ways: checker::check, square::has_cycle, square::reached and kept::aligned
   pub check : (flat o : List ℕ) (a b : CheckAnswer) → CheckGives flat o a → CheckGives flat o b → a ≡ b
   pub cycle : (tickets : List ℕ) (a b : Bool) → TellsCycle tickets a → TellsCycle tickets b → a ≡ b
   pub reached : (tickets : List ℕ) (marks a b : List Bool) → TellsReached tickets marks a → TellsReached tickets marks b → a ≡ b
   pub aligned : (t : method.Table) (chosen : ℕ) (a b : List ℕ) → Aligned t chosen a → Aligned t chosen b → a ≡ b
-  pub lowest : (x a b : ℕ) → a < 256 → b < 256 → sitesOf a ≡ drop 1 (sitesOf x) → sitesOf b ≡ drop 1 (sitesOf x) → a ≡ b

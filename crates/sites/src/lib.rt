@@ -1,12 +1,11 @@
-// The set of sites of a transaction, eight bits in a byte, bit i for site i (RULES, The table): which sites it has, how
-// many, which is the lowest. The definitions are in specs/Sites.antt.
+// The set of sites of a transaction, eight bits in a byte, bit i for site i (RULES, The table): which sites it has,
+// and how many. The definitions are in specs/Sites.antt.
 //
 // A loop that visits the sites, lowest first, is written
 //     while left != 0 { let s = u8::trailing_zeros(left) as usize; ..; left = left & (left - 1); }
 // and its proof cites `turn` of proofs/ByteLaws.antt: what was left is s, and then what is left now.
 ghost use mathlib.Core.Path.{_≡_};
-ghost use lib.ListN.{getD, drop};
-ghost use Rattle.sites.specs.Sites.{listed, sitesOf, sitesUsed, outsideb};
+ghost use Rattle.sites.specs.Sites.{listed, sitesUsed, outsideb};
 
 // Is site i in the set? Any i may be asked about: a message can name one up to 255.
 pub fn has_site(x: u8, i: u8) -> bool
@@ -27,19 +26,4 @@ pub fn goes_outside(x: u8, n: u8) -> bool
     ensures answer { λ r. ⌜ r ≡ outsideb x n ⌝ }
 {
     if n < 8 { (x >> n) != 0 } else { false }
-}
-
-// The lowest site of the set, and 8, which is no site, for the empty set.
-pub fn lowest(x: u8) -> usize
-    ensures answer { λ r. ⌜ r ≡ getD (sitesOf x) 0 8 ⌝ }
-{
-    u8::trailing_zeros(x) as usize
-}
-
-// The set without its lowest site; the empty set stays empty. A byte is known by its sites (`eq-of-sites`), so this
-// leaves one answer.
-pub fn without_lowest(x: u8) -> u8
-    ensures answer { λ r. ⌜ sitesOf r ≡ drop 1 (sitesOf x) ⌝ }
-{
-    if x == 0 { 0 } else { x & (x - 1) }
 }
