@@ -22,11 +22,11 @@ use Rattle.wire.specs.declared.reader.Request.{Request}
 use Rattle.wire.specs.declared.reader.Request.the-variants.{Opening, Beginning, Ticketing, Preparing, Aborting, Deciding, Forgetting, Sweeping, Proposing, Ordering}
 use Rattle.wire.specs.declared.reader.BodyAnswer.{BodyAnswer}
 use Rattle.wire.specs.Message.{Message, opening, beginning, ticketing, preparing, aborting, deciding, forgetting, sweeping, proposing, ordering}
-use Rattle.wire.specs.Kinds.{HasLength, base, rowOf, entriesOf}
+use Rattle.kinds.specs.Kinds.{HasLength, base, rowOf, entriesOf}
 use Rattle.wire.specs.Body.{messageAt, messageOf}
 use Rattle.wire.specs.Answers.{requestOf, messageWith, bodyAnswer}
-use Rattle.wire.proofs.CaseLaws.{by-kind}
-use Rattle.wire.proofs.KindsLaws.{length-of-entries, length-le-of-entries}
+use Rattle.kinds.proofs.CaseLaws.{by-kind}
+use Rattle.kinds.proofs.KindsLaws.{length-of-entries, length-le-of-entries}
 use Rattle.wire.proofs.RequestLaws.{message-of-request}
 use Rattle.desk.specs.declared.replies.Replied.{Replied}
 use Rattle.desk.specs.Desk.{answerLine, told, ifOpen, desk, deskBody}

@@ -10,7 +10,7 @@ use Rattle.rows.specs.Rows.{rowAt, rowsFrom, rowsOf, flatOf}
 use Rattle.rows.specs.Good.{apartb, goodb}
 use Rattle.rows.specs.Order.{inOrderb}
 use Rattle.sites.specs.Sites.{sitesOf}
-use Rattle.wire.specs.Kinds.{entriesOf}
+use Rattle.kinds.specs.Kinds.{entriesOf}
 use Rattle.wire.specs.Body.{messageAt}
 use Rattle.method.specs.Records.{ticketsOf, closed}
 use Rattle.method.specs.Slots.{firstAt, slotOf, freeSlot, kept, activeRows, entryOf}

@@ -11,7 +11,7 @@ use Rattle.rows.specs.Order.{InOrder}
 use mathlib.Core.Option.{Option, none, some}
 use Rattle.wire.specs.Message.{Message, opening, beginning, ticketing, preparing, aborting, deciding, forgetting, sweeping, proposing, ordering}
 use Rattle.wire.specs.Body.{messageOf}
-use Rattle.wire.specs.Stream.{Stream, ended, cutOff, framed}
+use Rattle.frames.specs.Stream.{Stream, ended, cutOff, framed}
 use Rattle.lines.specs.Line.{Line}
 use Rattle.method.specs.Slots.{keptRows, keptFlat}
 use Rattle.method.specs.Calls.Call.{openWith, begin, reportTicket, reportPrepared, abort, decide, forget, sweep}

@@ -11,18 +11,22 @@ use Rattle.endian.specs.Laid.{laid}
 use Rattle.rows.specs.Reply.{Reply}
 use Rattle.rows.specs.Write.{Written, Written.bad, Written.noRoom, Written.noOrder, Written.written}
 use Rattle.rows.proofs.WriteLaws.{write-result}
-use Rattle.wire.specs.declared.writer.WriteAnswer.{WriteAnswer}
+use Rattle.sending.specs.declared.WriteAnswer.{WriteAnswer}
 use Rattle.wire.specs.Message.{Message, opening, beginning, ticketing, preparing, aborting, deciding, forgetting, sweeping, proposing, ordering}
-use Rattle.wire.specs.Frame.{Next, nothing, cut, bad, whole, frameOf, nextFrame, Means, Bad, Cut}
-use Rattle.wire.specs.Stream.{streamOf}
-use Rattle.wire.specs.Writing.{writeAnswer, leftBy}
+use Rattle.frames.specs.Frame.{Next, nothing, cut, bad, whole, frameOf, nextFrame, Means, Bad, Cut}
+use Rattle.frames.specs.Stream.{streamOf}
+use Rattle.sending.specs.Writing.{writeAnswer, leftBy}
 use Rattle.wire.specs.Body.{messageOf}
-use Rattle.wire.specs.Answers.{bodyAnswer, frameAnswer, readAnswer}
-use Rattle.wire.specs.Meaning.{BodyMeans, FrameMeans, ReadMeans, WriteMeans, writeRefusal}
+use Rattle.wire.specs.Answers.{bodyAnswer, readAnswer}
+use Rattle.frames.specs.Answer.{frameAnswer, FrameMeans}
+use Rattle.wire.specs.Meaning.{BodyMeans, ReadMeans}
+use Rattle.sending.specs.Meaning.{WriteMeans, writeRefusal}
 use Rattle.wire.proofs.BodyLaws.{message-of-body}
-use Rattle.wire.proofs.FrameLaws.{means-next, next-of-means}
-use Rattle.wire.proofs.StreamLaws.{stream-of-nothing, stream-of-cut, stream-of-bad, stream-of-whole}
-use Rattle.wire.proofs.MeaningLaws.{body-means, body-of-means, frame-means, frame-of-means, read-means, read-of-means, write-means, write-of-means}
+use Rattle.frames.proofs.FrameLaws.{means-next, next-of-means}
+use Rattle.frames.proofs.StreamLaws.{stream-of-nothing, stream-of-cut, stream-of-bad, stream-of-whole}
+use Rattle.wire.proofs.MeaningLaws.{body-means, body-of-means, read-means, read-of-means}
+use Rattle.frames.proofs.AnswerLaws.{frame-means, frame-of-means}
+use Rattle.sending.proofs.MeaningLaws.{write-means, write-of-means}
 use Rattle.lines.specs.Line.{Line}
 use Rattle.lines.proofs.LineLaws.{one-line}
 use Rattle.lines.proofs.ReadingLaws.{outputBytes-injective}

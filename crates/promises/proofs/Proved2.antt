@@ -10,16 +10,16 @@ use Rattle.graph.proofs.TestLaws.{true-or-false, true-not-false}
 use Rattle.graph.specs.Reached.{Reached}
 use Rattle.sites.specs.Sites.{sitesOf}
 use Rattle.sites.proofs.SitesLaws.{rising-sites, lt-of-member}
-use Rattle.wire.specs.declared.writer.WriteAnswer.{WriteAnswer}
+use Rattle.sending.specs.declared.WriteAnswer.{WriteAnswer}
 use Rattle.wire.specs.Message.{bodyOf}
-use Rattle.wire.specs.Frame.{Next, frameOf}
-use Rattle.wire.specs.Meaning.{WriteMeans}
-use Rattle.wire.specs.Writing.{writeAnswer, leftBy}
+use Rattle.frames.specs.Frame.{Next, frameOf}
+use Rattle.sending.specs.Meaning.{WriteMeans}
+use Rattle.sending.specs.Writing.{writeAnswer, leftBy}
 use Rattle.wire.proofs.BodyLaws.{message-of-body, body-of-message, below-bodyOf}
-use Rattle.wire.proofs.MeaningLaws.{write-means}
-use Rattle.wire.proofs.RoundLaws.{read-of-written}
-use Rattle.wire.proofs.FrameLaws.{next-of-means, means-of-next}
-use Rattle.wire.proofs.StreamLaws.{bytes-of-stream, well-formed-stream, one-stream}
+use Rattle.sending.proofs.MeaningLaws.{write-means}
+use Rattle.sending.proofs.RoundLaws.{read-of-written}
+use Rattle.frames.proofs.FrameLaws.{next-of-means, means-of-next}
+use Rattle.frames.proofs.StreamLaws.{bytes-of-stream, well-formed-stream, one-stream}
 use Rattle.method.specs.declared.Ticket.{Ticket}
 use Rattle.method.specs.declared.State.{State}
 use Rattle.method.specs.declared.Row.{Row}

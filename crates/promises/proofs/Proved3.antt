@@ -17,7 +17,7 @@ use Rattle.rows.proofs.ReplyLaws.{checkReply-injective, writeReply-injective, c
 use Rattle.rows.proofs.WriteLaws.{write-result}
 use Rattle.rows.proofs.CCallLaws.{call-result}
 use Rattle.method.proofs.RecordLaws.{never}
-use Rattle.wire.specs.Stream.{streamOf}
+use Rattle.frames.specs.Stream.{streamOf}
 use Rattle.runs.specs.Run.{Run.start, after}
 use Rattle.runs.proofs.InvariantLaws.{history-apart, history-ordered}
 use Rattle.runs.proofs.ReportedLaws.{history-commits, history-reported}

@@ -15,14 +15,15 @@ use Rattle.rows.specs.Order.{checkResult}
 use Rattle.rows.specs.Write.{writeResult}
 use Rattle.rows.specs.CCall.{callResult}
 use Rattle.wire.specs.declared.reader.BodyAnswer.{BodyAnswer}
-use Rattle.wire.specs.declared.reader.FrameAnswer.{FrameAnswer}
+use Rattle.frames.specs.declared.FrameAnswer.{FrameAnswer}
 use Rattle.wire.specs.declared.reader.ReadAnswer.{ReadAnswer}
-use Rattle.wire.specs.declared.writer.WriteAnswer as messages
+use Rattle.sending.specs.declared.WriteAnswer as messages
 use Rattle.wire.specs.Body.{messageOf}
-use Rattle.wire.specs.Frame.{nextFrame}
-use Rattle.wire.specs.Stream.{streamOf}
-use Rattle.wire.specs.Answers.{bodyAnswer, frameAnswer, readAnswer}
-use Rattle.wire.specs.Writing.{writeAnswer, written}
+use Rattle.frames.specs.Frame.{nextFrame}
+use Rattle.frames.specs.Stream.{streamOf}
+use Rattle.wire.specs.Answers.{bodyAnswer, readAnswer}
+use Rattle.frames.specs.Answer.{frameAnswer}
+use Rattle.sending.specs.Writing.{writeAnswer, written}
 use Rattle.lines.specs.Line.{lineBytes, order}
 use Rattle.lines.specs.Writing.{lineOf}
 use Rattle.lines.specs.declared.Words.{Words}
@@ -50,7 +51,7 @@ CCheckGives rows o n = n ≡ callResult rows o
 abbrev pub WriteGives : List ℕ → ℕ → List ℕ → WriteAnswer → List ℕ → Type 0
 WriteGives flat place out r after = (writeReply r ≡ writeResult flat place out .0) × (after ≡ writeResult flat place out .1)
 
--- wire::reader::read_body(body), read_frame(msg), read_message(msg)
+-- wire::reader::read_body(body), frames::read_frame(msg), wire::reader::read_message(msg)
 abbrev pub BodyGives : List ℕ → BodyAnswer → Type 0
 BodyGives b r = r ≡ bodyAnswer (messageOf b)
 
@@ -60,7 +61,7 @@ FrameGives l r = r ≡ frameAnswer (nextFrame l)
 abbrev pub ReadGives : List ℕ → ReadAnswer → Type 0
 ReadGives l r = r ≡ readAnswer (nextFrame l)
 
--- wire::writer::write_message(body, out, place)
+-- sending::write_message(body, out, place)
 abbrev pub MessageGives : List ℕ → List ℕ → ℕ → messages.WriteAnswer → List ℕ → Type 0
 MessageGives b out place r after = (r ≡ writeAnswer b out place) × (after ≡ written b out place)
 

@@ -12,13 +12,15 @@ use Rattle.graph.specs.Lists.{_∈_}
 use Rattle.rows.specs.declared.WriteAnswer.{WriteAnswer}
 use Rattle.rows.specs.Reply.{Reply, writeReply}
 use Rattle.wire.specs.declared.reader.BodyAnswer.{BodyAnswer}
-use Rattle.wire.specs.declared.reader.FrameAnswer.{FrameAnswer}
+use Rattle.frames.specs.declared.FrameAnswer.{FrameAnswer}
 use Rattle.wire.specs.declared.reader.ReadAnswer.{ReadAnswer}
-use Rattle.wire.specs.declared.writer.WriteAnswer as messages
+use Rattle.sending.specs.declared.WriteAnswer as messages
 use Rattle.wire.specs.Message.{Message, InRange, bodyOf, opening, beginning, ticketing, preparing, aborting, deciding, forgetting, sweeping, proposing, ordering}
-use Rattle.wire.specs.Frame.{frameOf, Bad, Cut}
-use Rattle.wire.specs.Stream.{streamOf}
-use Rattle.wire.specs.Meaning.{NoBody, BodyMeans, FrameMeans, ReadMeans, WriteMeans, writeRefusal}
+use Rattle.frames.specs.Frame.{frameOf, Bad, Cut}
+use Rattle.frames.specs.Stream.{streamOf}
+use Rattle.wire.specs.Meaning.{NoBody, BodyMeans, ReadMeans}
+use Rattle.frames.specs.Answer.{FrameMeans}
+use Rattle.sending.specs.Meaning.{WriteMeans, writeRefusal}
 use Rattle.lines.specs.Line.{Line, lineBytes}
 use Rattle.lines.specs.Reading.{OneLine, outputBytes}
 use Rattle.method.specs.declared.Answer.{Answer}

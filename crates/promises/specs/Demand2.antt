@@ -24,11 +24,11 @@ use Rattle.runs.specs.Placed.{Placed}
 use Rattle.runs.specs.Sweeps.{freeSlots, ForgetAll, NoneToForget}
 use Rattle.wire.specs.Message.{Message, InRange, bodyOf}
 use Rattle.wire.specs.declared.reader.ReadAnswer.{ReadAnswer}
-use Rattle.wire.specs.declared.writer.WriteAnswer.{WriteAnswer}
+use Rattle.sending.specs.declared.WriteAnswer.{WriteAnswer}
 use Rattle.wire.specs.Answers.{requestOf}
 use Rattle.wire.specs.Body.{messageOf}
-use Rattle.wire.specs.Frame.{Next, frameOf, nextFrame}
-use Rattle.wire.specs.Stream.{Stream, streamOf, bytesOf, WellFormed}
+use Rattle.frames.specs.Frame.{Next, frameOf, nextFrame}
+use Rattle.frames.specs.Stream.{Stream, streamOf, bytesOf, WellFormed}
 use Rattle.endian.specs.Places.{Below}
 use Rattle.table.specs.declared.Table as held
 use Rattle.promises.specs.Contracts.{CallGives, ReadGives, MessageGives}

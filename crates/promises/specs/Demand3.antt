@@ -23,7 +23,7 @@ use Rattle.method.specs.Conditions.{Closed}
 use Rattle.runs.specs.Run.{Run, after, Happened, TakesTicket, Commits}
 use Rattle.runs.specs.History.{history}
 use Rattle.wire.specs.Message.{proposing, ordering}
-use Rattle.wire.specs.Stream.{streamOf}
+use Rattle.frames.specs.Stream.{streamOf}
 use Rattle.lines.specs.Line.{Line}
 use Rattle.desk.specs.Desk.{desk, deskBody}
 use Rattle.turns.specs.Lines.{linesOf}

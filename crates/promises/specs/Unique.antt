@@ -8,7 +8,7 @@ use Rattle.square.specs.Square.{TellsCycle, TellsReached}
 use Rattle.kept.specs.Aligned.{Aligned}
 use Rattle.rows.specs.declared.CheckAnswer.{CheckAnswer}
 use Rattle.rows.specs.declared.WriteAnswer.{WriteAnswer}
-use Rattle.wire.specs.declared.writer.WriteAnswer as messages
+use Rattle.sending.specs.declared.WriteAnswer as messages
 use Rattle.lines.specs.declared.Words.{Words}
 use Rattle.method.specs.declared.Answer.{Answer}
 use Rattle.method.specs.declared.Table as method
@@ -18,8 +18,8 @@ use Rattle.desk.specs.declared.Served.{Served}
 use Rattle.turns.specs.declared.Turn.{Turn}
 use Rattle.promises.specs.Contracts.{CallGives, CheckGives, WriteGives, MessageGives, LineGives, OrderGives, ServeGives, TurnGives}
 
--- a contract `r ≡ ..` leaves one result, whatever stands behind: so of `ccheck`, of the readers in `wire`, of `table`'s questions, and of
--- all functions that are not named below
+-- a contract `r ≡ ..` leaves one result, whatever stands behind: so of `ccheck`, of the readers in `frames` and `wire`, of `table`'s
+-- questions, and of all functions that are not named below
 abbrev pub EqualLeavesOne : Type 1
 EqualLeavesOne = (A : Type 0) (f x y : A) → x ≡ f → y ≡ f → x ≡ y
 

@@ -8,9 +8,9 @@ use lib.ListN.{length, drop}
 use lib.Seq.{drop-drop, drop-at}
 use Rattle.lines.specs.Line.{Line, lineBytes, refused}
 use Rattle.lines.specs.Reading.{outputBytes}
-use Rattle.wire.specs.Stream.{Stream, ended, cutOff, framed, streamOf, continued, bytesOf, WellFormed}
-use Rattle.wire.specs.Frame.{frameOf}
-use Rattle.wire.proofs.StreamLaws.{stream-of-append, stream-is, bytes-of-stream, well-formed-stream}
+use Rattle.frames.specs.Stream.{Stream, ended, cutOff, framed, streamOf, continued, bytesOf, WellFormed}
+use Rattle.frames.specs.Frame.{frameOf}
+use Rattle.frames.proofs.StreamLaws.{stream-of-append, stream-is, bytes-of-stream, well-formed-stream}
 use Rattle.method.specs.declared.Table.{Table}
 use Rattle.desk.specs.Desk.{deskBody}
 use Rattle.turns.specs.Lines.{linesOf, answerTo}

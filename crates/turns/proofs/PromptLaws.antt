@@ -8,9 +8,9 @@ use native.Mathlib.Omega.{arith}
 use lib.ListN.{length, drop, length-append}
 use borrow.Author.Tests.{leb-false}
 use Rattle.lines.specs.Line.{lineBytes}
-use Rattle.wire.specs.Frame.{Cut, frameOf}
-use Rattle.wire.specs.Stream.{Stream, ended, cutOff, framed, streamOf, bytesOf, WellFormed}
-use Rattle.wire.proofs.StreamLaws.{bytes-of-stream, well-formed-stream}
+use Rattle.frames.specs.Frame.{Cut, frameOf}
+use Rattle.frames.specs.Stream.{Stream, ended, cutOff, framed, streamOf, bytesOf, WellFormed}
+use Rattle.frames.proofs.StreamLaws.{bytes-of-stream, well-formed-stream}
 use Rattle.method.specs.declared.Table.{Table}
 use Rattle.desk.specs.Desk.{deskBody}
 use Rattle.turns.specs.Turn.{Turned, turn, roomy, stops, ends, behind}

@@ -13,15 +13,13 @@ use borrow.Author.Tests.{le-leb, lt-leb, ne-eqb}
 use Rattle.endian.specs.Laid.{laid}
 use Rattle.endian.proofs.LaidLaws.{laid-of-laid, length-laid}
 use Rattle.lines.specs.Line.{lineBytes}
-use Rattle.wire.specs.Frame.{Next, nothing, cut, bad, whole, frameOf, nextFrame, bodyTo, EndsAt}
-use Rattle.wire.specs.Stream.{Stream, ended, cutOff, framed, bytesOf, streamOf}
-use Rattle.wire.specs.declared.reader.FrameAnswer.{FrameAnswer}
-use Rattle.wire.specs.Answers.{frameAnswer}
-use Rattle.wire.proofs.AnswerLaws.{read-of-not-yet, read-of-bad}
-use Rattle.wire.proofs.RequestLaws.{bad-of-read, not-yet-of-read}
-use Rattle.wire.proofs.FrameLaws.{means-of-next}
-use Rattle.wire.proofs.StreamLaws.{bytes-of-stream, stream-of-nothing, stream-of-cut, stream-of-bad, stream-of-end}
-use Rattle.wire.proofs.MeaningLaws.{length-bodyTo}
+use Rattle.frames.specs.Frame.{nothing, cut, frameOf, nextFrame, bodyTo, EndsAt}
+use Rattle.frames.specs.Stream.{Stream, ended, cutOff, framed, bytesOf, streamOf}
+use Rattle.frames.specs.declared.FrameAnswer.{FrameAnswer}
+use Rattle.frames.specs.Answer.{frameAnswer}
+use Rattle.frames.proofs.AnswerLaws.{bad-of-answer, not-yet-of-answer}
+use Rattle.frames.proofs.FrameLaws.{means-of-next, length-bodyTo}
+use Rattle.frames.proofs.StreamLaws.{bytes-of-stream, stream-of-nothing, stream-of-cut, stream-of-bad, stream-of-end}
 use Rattle.method.specs.declared.Table.{Table}
 use Rattle.desk.specs.Desk.{deskBody}
 use Rattle.table.specs.Shut.{shutTable}
@@ -42,12 +40,12 @@ module _ (last : Bool) (t : Table) (left : ℕ) where
   module _ (h : 358 ≤ left) (l : List ℕ) where
     pub turn-bad : frameAnswer (nextFrame l) ≡ FrameAnswer.Bad → turn last t left (streamOf l) ≡ ends t
     unfolding turn
-    turn-bad e = rw (stream-of-bad l (bad-of-read (nextFrame l) (sym (read-of-bad (nextFrame l) e))), le-leb 358 left h) refl
+    turn-bad e = rw (stream-of-bad l (bad-of-answer l e), le-leb 358 left h) refl
 
     -- not yet whole: the end only where the input ends, and something is left
     pub turn-not-yet : frameAnswer (nextFrame l) ≡ FrameAnswer.NotYet → turn last t left (streamOf l) ≡ cond (last && not (eqb (length l) 0)) (ends t) (stops t)
     unfolding turn
-    turn-not-yet e = go (not-yet-of-read (nextFrame l) (sym (read-of-not-yet (nextFrame l) e)))
+    turn-not-yet e = go (not-yet-of-answer l e)
       where
         go : (nextFrame l ≡ nothing) ⊎ (nextFrame l ≡ cut) → turn last t left (streamOf l) ≡ cond (last && not (eqb (length l) 0)) (ends t) (stops t)
         go (inl n) = rw (stream-of-nothing l n, means-of-next l nothing n) (none last)

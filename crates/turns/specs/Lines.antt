@@ -4,7 +4,7 @@ use mathlib.Core.List.{List, [], _∷_}
 use Prim.Native.Nat.{ℕ}
 use Rattle.lines.specs.Line.{Line, refused}
 use Rattle.lines.specs.Reading.{outputBytes}
-use Rattle.wire.specs.Stream.{Stream, ended, cutOff, framed, streamOf}
+use Rattle.frames.specs.Stream.{Stream, ended, cutOff, framed, streamOf}
 use Rattle.method.specs.declared.Table.{Table}
 use Rattle.desk.specs.Desk.{deskBody}
 

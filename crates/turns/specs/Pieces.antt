@@ -4,7 +4,7 @@ use mathlib.Core.Bool.{false, cond}
 use mathlib.Core.List.{List, [], _∷_, _++_}
 use Prim.Native.Nat.{ℕ}
 use lib.ListN.{drop}
-use Rattle.wire.specs.Stream.{streamOf}
+use Rattle.frames.specs.Stream.{streamOf}
 use Rattle.method.specs.declared.Table.{Table}
 use Rattle.turns.specs.Lines.{answerTo}
 use Rattle.turns.specs.Turn.{Turned, turn}

@@ -6,7 +6,7 @@ use Prim.Native.Nat.{ℕ, _+_, _-_}
 use lib.Dec.{leb}
 use lib.ListN.{length}
 use Rattle.lines.specs.Line.{Line, lineBytes, refused}
-use Rattle.wire.specs.Stream.{Stream, ended, cutOff, framed}
+use Rattle.frames.specs.Stream.{Stream, ended, cutOff, framed}
 use Rattle.method.specs.declared.Table.{Table}
 use Rattle.desk.specs.Desk.{deskBody}
 

@@ -4,13 +4,13 @@ ghost use mathlib.Core.Bool.{true};
 ghost use Prim.Native.Nat.{_+_, _≤_};
 ghost use lib.ListN.{length};
 ghost use Rattle.endian.specs.Laid.{laid};
-ghost use Rattle.wire.specs.Stream.{streamOf};
+ghost use Rattle.frames.specs.Stream.{streamOf};
 ghost use Rattle.table.specs.Shut.{shutTable};
 ghost use Rattle.turns.specs.Turn.{turn, eleven};
 ghost use Rattle.turns.specs.Struct.{turnOf};
+use frames::FrameAnswer;
 use lines::Words;
 use table::Table;
-use wire::reader::FrameAnswer;
 
 // The table after the turn, how many bytes of input were used and of output written, and whether reading is over: the last line
 // was an 11.
@@ -53,7 +53,7 @@ pub fn take_turn(t: Table, input: &[u8], last: bool, out: &mut [u8]) -> Turn
     let mut written: usize = 0;
     while 358 <= out.len() - written {
         let rest = &input[used..];
-        match wire::reader::read_frame(rest) {
+        match frames::read_frame(rest) {
             FrameAnswer::Whole { end } => {
                 let s = desk::serve(table, &rest[3..end], out, written);
                 table = s.table;

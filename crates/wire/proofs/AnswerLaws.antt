@@ -1,30 +1,22 @@
 -- The code's answers and the definitions: what an answer says of the bytes. A request and its body make up the message. Assumes nothing.
 use mathlib.Core.Path.{_≡_, refl}
 use mathlib.Core.List.{List}
-use mathlib.Core.Option.{Option, none, some}
 use Prim.Native.Nat.{ℕ, _+_, _<_}
 use lib.ListN.{length, getD}
 use Rattle.endian.specs.Places.{word32}
 use Rattle.endian.proofs.WordsLaws.{length-words-of-drop}
-use Rattle.wire.specs.declared.kinds.Count.{Count}
+use Rattle.kinds.specs.declared.Count.{Count}
 use Rattle.wire.specs.declared.reader.BodyAnswer.{BodyAnswer}
-use Rattle.wire.specs.declared.reader.FrameAnswer.{FrameAnswer}
+use Rattle.frames.specs.declared.FrameAnswer.{FrameAnswer}
 use Rattle.wire.specs.declared.reader.ReadAnswer.{ReadAnswer}
-use Rattle.wire.specs.Kinds.{HasLength, entriesOf}
+use Rattle.kinds.specs.Kinds.{HasLength, entriesOf, countOf}
 use Rattle.wire.specs.Body.{messageAt, messageOf}
-use Rattle.wire.specs.Frame.{bodyTo, EndsAt, Next, nothing, cut, bad, whole, Means}
-use Rattle.wire.specs.Answers.{countOf, requestOf, requestAt, bodyAnswer, frameAnswer, withEnd, readAnswer}
-use Rattle.wire.proofs.CaseLaws.{apart, by-kind}
-use Rattle.wire.proofs.KindsLaws.{length-of-entries}
-use Rattle.wire.proofs.FrameLaws.{ends-framed}
-
-pub some-of-count : (o : Option ℕ) (n : ℕ) → countOf o ≡ Count.Entries n → o ≡ some n
-some-of-count none n e = apart (cc)
-some-of-count (some k) n e = cc
-
-pub none-of-count : (o : Option ℕ) → countOf o ≡ Count.Wrong → o ≡ none
-none-of-count none e = refl
-none-of-count (some k) e = apart (cc)
+use Rattle.frames.specs.Frame.{bodyTo, EndsAt, Next, nothing, cut, bad, whole, Means}
+use Rattle.wire.specs.Answers.{requestOf, requestAt, bodyAnswer, withEnd, readAnswer}
+use Rattle.frames.specs.Answer.{frameAnswer}
+use Rattle.kinds.proofs.CaseLaws.{apart, by-kind}
+use Rattle.kinds.proofs.KindsLaws.{length-of-entries, some-of-count, none-of-count}
+use Rattle.frames.proofs.FrameLaws.{ends-framed}
 
 module _ (b : List ℕ) where
   abbrev AtKind : ℕ → Type 0

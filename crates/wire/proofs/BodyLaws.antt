@@ -14,10 +14,10 @@ use Rattle.endian.proofs.BelowLaws.{below-append, below-drop, below-words, belo
 use Rattle.endian.proofs.PlacesLaws.{drop-of-word32, word32-lt}
 use Rattle.endian.proofs.WordsLaws.{words-of-wordBytes, wordBytes-of-words, length-words-of-drop, length-wordBytes}
 use Rattle.wire.specs.Message.{Message, opening, beginning, ticketing, preparing, aborting, deciding, forgetting, sweeping, proposing, ordering, bodyOf, InRange}
-use Rattle.wire.specs.Kinds.{HasLength, entriesOf}
+use Rattle.kinds.specs.Kinds.{HasLength, entriesOf}
 use Rattle.wire.specs.Body.{messageAt, messageOf}
-use Rattle.wire.proofs.CaseLaws.{by-kind}
-use Rattle.wire.proofs.KindsLaws.{length-of-entries, entries-of-length, length-le-of-entries}
+use Rattle.kinds.proofs.CaseLaws.{by-kind}
+use Rattle.kinds.proofs.KindsLaws.{length-of-entries, entries-of-length, length-le-of-entries}
 
 message-of-entries : (b : List ℕ) (n : ℕ) → HasLength (getD b 0 0) n (length b) → messageOf b ≡ some (messageAt (getD b 0 0) b)
 message-of-entries b n h = rw (entries-of-length (getD b 0 0) (length b) n h)

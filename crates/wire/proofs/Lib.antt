@@ -1,12 +1,5 @@
-pub mod CaseLaws
-pub mod KindsLaws
 pub mod BodyLaws
-pub mod FrameLaws
-pub mod MoreLaws
-pub mod StreamLaws
 pub mod AnswerLaws
 pub mod RequestLaws
-pub mod WritingLaws
 pub mod MeaningLaws
-pub mod RoundLaws
 pub mod TrialLaws

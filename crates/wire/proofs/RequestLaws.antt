@@ -2,7 +2,6 @@
 -- that the end tells. Assumes nothing.
 use mathlib.Core.Path.{_≡_, refl}
 use mathlib.Core.List.{List}
-use mathlib.Core.Logic.{_⊎_, inl, inr}
 use mathlib.Core.Option.{Option, none, some, map-eq-some-iff}
 use Prim.Native.Nat.{ℕ, _+_, _<_}
 use lib.ListN.{length, getD}
@@ -10,13 +9,13 @@ use Rattle.wire.specs.declared.reader.Request.{Request}
 use Rattle.wire.specs.declared.reader.BodyAnswer.{BodyAnswer}
 use Rattle.wire.specs.declared.reader.ReadAnswer.{ReadAnswer}
 use Rattle.wire.specs.Message.{Message}
-use Rattle.wire.specs.Kinds.{entriesOf}
+use Rattle.kinds.specs.Kinds.{entriesOf}
 use Rattle.wire.specs.Body.{messageAt, messageOf}
-use Rattle.wire.specs.Frame.{bodyTo, EndsAt, Means, Next, nothing, cut, bad, whole, nextFrame}
+use Rattle.frames.specs.Frame.{bodyTo, EndsAt, Means, Next, nothing, cut, bad, whole, nextFrame}
 use Rattle.wire.specs.Answers.{requestOf, messageWith, bodyAnswer, withEnd, readAnswer}
-use Rattle.wire.proofs.CaseLaws.{apart, by-kind}
-use Rattle.wire.proofs.KindsLaws.{length-of-entries}
-use Rattle.wire.proofs.FrameLaws.{ends-framed, means-next}
+use Rattle.kinds.proofs.CaseLaws.{apart, by-kind}
+use Rattle.kinds.proofs.KindsLaws.{length-of-entries}
+use Rattle.frames.proofs.FrameLaws.{ends-framed, means-next}
 
 module _ (b : List ℕ) where
   with-at : (k : ℕ) → k < 10 → messageWith (requestOf (messageAt k b)) b ≡ messageAt k b
@@ -82,20 +81,3 @@ module _ (l : List ℕ) (e : ℕ) where
           let (a, k) = wrong-of-end (bodyAnswer (messageOf b)) (3 + length b) e h in
           let (i, f) = ends-framed l e b r p k in
           (f, rw (← i) (none-of-wrong b a))
-
--- reading ends, or waits for more
-not-read-of-end : (a : BodyAnswer) (n : ℕ) → (withEnd a n ≡ ReadAnswer.Bad → ⊥) × (withEnd a n ≡ ReadAnswer.NotYet → ⊥)
-not-read-of-end (BodyAnswer.Request q) n = (λ h. apart (cc), λ h. apart (cc))
-not-read-of-end BodyAnswer.Wrong n = (λ h. apart (cc), λ h. apart (cc))
-
-pub bad-of-read : (x : Next) → readAnswer x ≡ ReadAnswer.Bad → x ≡ bad
-bad-of-read nothing h = apart (cc)
-bad-of-read cut h = apart (cc)
-bad-of-read bad h = refl
-bad-of-read (whole b r) h = absurd (not-read-of-end (bodyAnswer (messageOf b)) (3 + length b) .0 h)
-
-pub not-yet-of-read : (x : Next) → readAnswer x ≡ ReadAnswer.NotYet → (x ≡ nothing) ⊎ (x ≡ cut)
-not-yet-of-read nothing h = inl refl
-not-yet-of-read cut h = inr refl
-not-yet-of-read bad h = apart (cc)
-not-yet-of-read (whole b r) h = absurd (not-read-of-end (bodyAnswer (messageOf b)) (3 + length b) .1 h)

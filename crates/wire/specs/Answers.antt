@@ -4,19 +4,13 @@ use mathlib.Core.Option.{Option, none, some}
 use Prim.Native.Nat.{ℕ, _+_}
 use lib.ListN.{length, getD, drop}
 use Rattle.endian.specs.Bytes.{words}
-use Rattle.wire.specs.declared.kinds.Count.{Count}
 use Rattle.wire.specs.declared.reader.Request.{Request}
 use Rattle.wire.specs.declared.reader.Request.the-variants.{Opening, Beginning, Ticketing, Preparing, Aborting, Deciding, Forgetting, Sweeping, Proposing, Ordering}
 use Rattle.wire.specs.declared.reader.BodyAnswer.{BodyAnswer}
-use Rattle.wire.specs.declared.reader.FrameAnswer.{FrameAnswer}
 use Rattle.wire.specs.declared.reader.ReadAnswer.{ReadAnswer}
 use Rattle.wire.specs.Message.{Message, opening, beginning, ticketing, preparing, aborting, deciding, forgetting, sweeping, proposing, ordering}
 use Rattle.wire.specs.Body.{messageOf}
-use Rattle.wire.specs.Frame.{Next, nothing, cut, bad, whole}
-
-abbrev pub countOf : Option ℕ → Count
-countOf none = Count.Wrong
-countOf (some n) = Count.Entries n
+use Rattle.frames.specs.Frame.{Next, nothing, cut, bad, whole}
 
 -- a message with its list counted
 abbrev pub requestOf : Message → Request
@@ -56,17 +50,11 @@ abbrev pub bodyAnswer : Option Message → BodyAnswer
 bodyAnswer none = BodyAnswer.Wrong
 bodyAnswer (some m) = BodyAnswer.Request (requestOf m)
 
--- no byte at all is not yet whole either
-abbrev pub frameAnswer : Next → FrameAnswer
-frameAnswer nothing = FrameAnswer.NotYet
-frameAnswer cut = FrameAnswer.NotYet
-frameAnswer bad = FrameAnswer.Bad
-frameAnswer (whole b r) = FrameAnswer.Whole (3 + length b)
-
 abbrev pub withEnd : BodyAnswer → ℕ → ReadAnswer
 withEnd (BodyAnswer.Request q) e = ReadAnswer.Message q e
 withEnd BodyAnswer.Wrong e = ReadAnswer.Wrong e
 
+-- no byte at all is not yet whole either
 abbrev pub readAnswer : Next → ReadAnswer
 readAnswer nothing = ReadAnswer.NotYet
 readAnswer cut = ReadAnswer.NotYet

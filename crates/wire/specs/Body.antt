@@ -1,5 +1,5 @@
--- The message of a body. Rests on specs/Message.antt and specs/Kinds.antt; proofs/BodyLaws.antt shows that this is the one message whose
--- body it is, and that where there is none no message has that body.
+-- The message of a body. Rests on specs/Message.antt and on the table of crate `kinds`; proofs/BodyLaws.antt shows that this is the one
+-- message whose body it is, and that where there is none no message has that body.
 use mathlib.Core.List.{List, [], _∷_}
 use mathlib.Core.Option.{Option, Option·map}
 use Prim.Native.Nat.{ℕ}
@@ -7,7 +7,7 @@ use lib.ListN.{length, getD, drop}
 use Rattle.endian.specs.Bytes.{words}
 use Rattle.endian.specs.Places.{word32}
 use Rattle.wire.specs.Message.{Message, opening, beginning, ticketing, preparing, aborting, deciding, forgetting, sweeping, proposing, ordering}
-use Rattle.wire.specs.Kinds.{entriesOf}
+use Rattle.kinds.specs.Kinds.{entriesOf}
 
 -- kind by kind, the fields where they stand. Past the table's end stands any message: no body of such a kind has the right length.
 unfoldable pub messageAt : ℕ → List ℕ → Message

@@ -1,9 +1,5 @@
 pub mod Message
-pub mod Kinds
 pub mod Body
-pub mod Frame
-pub mod Stream
 pub mod Answers
-pub mod Writing
 pub mod Meaning
 pub mod Trials

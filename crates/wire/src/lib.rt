@@ -1,4 +1,2 @@
-// Messages and bytes: the table of kinds, the reader and the writer. Rests on `endian`.
-pub mod kinds;
+// Messages and their bodies: the reader. Rests on `endian`, on the table of kinds and on frames; crate `sending` has the writer.
 pub mod reader;
-pub mod writer;

@@ -1,9 +1,10 @@
 // From bytes to messages. The lists of an opening and of a proposal stay in the bytes; a request has only their count.
-use crate::kinds::Count;
+use frames::FrameAnswer;
+use kinds::Count;
 ghost use mathlib.Core.Path.{_≡_};
+ghost use Rattle.frames.specs.Frame.{nextFrame};
 ghost use Rattle.wire.specs.Body.{messageOf};
-ghost use Rattle.wire.specs.Frame.{nextFrame};
-ghost use Rattle.wire.specs.Answers.{requestAt, bodyAnswer, frameAnswer, readAnswer};
+ghost use Rattle.wire.specs.Answers.{requestAt, bodyAnswer, readAnswer};
 
 // A message without its list: specs/Answers.antt says how it and the body make up the message.
 pub enum Request {
@@ -58,7 +59,7 @@ pub fn read_body(body: &[u8]) -> BodyAnswer
 {
     // an empty body reads as kind 0, and no kind has length 0
     let kind = endian::get8(body, 0);
-    let Count::Entries(n) = crate::kinds::entries(kind, body.len()) else {
+    let Count::Entries(n) = kinds::entries(kind, body.len()) else {
         return BodyAnswer::Wrong;
     };
     let sites = endian::get8(body, 1);
@@ -68,39 +69,7 @@ pub fn read_body(body: &[u8]) -> BodyAnswer
     BodyAnswer::Request(request_at(kind, n, sites, number, site, ticket))
 }
 
-// What stands in front of the bytes at hand.
-pub enum FrameAnswer {
-    // a whole message, which ends before `end`; its body is `&msg[3..end]`
-    Whole { end: usize },
-    NotYet,
-    // refusal 11
-    Bad,
-}
-
-pub fn read_frame(msg: &[u8]) -> FrameAnswer
-    ensures { λ r. ⌜ r ≡ frameAnswer (nextFrame (now (msg .entry))) ⌝ }
-{
-    let n = msg.len();
-    if n == 0 {
-        return FrameAnswer::NotYet;
-    }
-    if msg[0] != 1 {
-        return FrameAnswer::Bad;
-    }
-    if n < 3 {
-        return FrameAnswer::NotYet;
-    }
-    let len = endian::get16(msg, 1) as usize;
-    if 160 < len {
-        return FrameAnswer::Bad;
-    }
-    if n < 3 + len {
-        return FrameAnswer::NotYet;
-    }
-    FrameAnswer::Whole { end: 3 + len }
-}
-
-// Both in one: the first message of the bytes at hand, and where it ends.
+// Frame and body in one: the first message of the bytes at hand, and where it ends.
 pub enum ReadAnswer {
     Message { request: Request, end: usize },
     // refusal 10: reading goes on at `end`
@@ -113,7 +82,7 @@ pub enum ReadAnswer {
 pub fn read_message(msg: &[u8]) -> ReadAnswer
     ensures { λ r. ⌜ r ≡ readAnswer (nextFrame (now (msg .entry))) ⌝ }
 {
-    match read_frame(msg) {
+    match frames::read_frame(msg) {
         FrameAnswer::Whole { end } => match read_body(&msg[3..end]) {
             BodyAnswer::Request(request) => ReadAnswer::Message {
                 request: request,

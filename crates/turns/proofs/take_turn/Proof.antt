@@ -11,12 +11,11 @@ use denote.Ref.{now}
 use borrow.Author.Needs.{needs}
 use Rattle.endian.proofs.PartLaws.{part-is}
 use Rattle.endian.specs.Laid.{laid}
-use Rattle.wire.specs.Frame.{nextFrame, bodyTo, EndsAt}
-use Rattle.wire.specs.declared.reader.FrameAnswer.{FrameAnswer}
-use Rattle.wire.specs.Stream.{streamOf}
-use Rattle.wire.specs.Answers.{frameAnswer}
-use Rattle.wire.specs.Meaning.{FrameMeans}
-use Rattle.wire.proofs.MeaningLaws.{frame-means}
+use Rattle.frames.specs.Frame.{nextFrame, bodyTo, EndsAt}
+use Rattle.frames.specs.declared.FrameAnswer.{FrameAnswer}
+use Rattle.frames.specs.Stream.{streamOf}
+use Rattle.frames.specs.Answer.{frameAnswer, FrameMeans}
+use Rattle.frames.proofs.AnswerLaws.{frame-means}
 use Rattle.method.specs.declared.Table.{Table}
 use Rattle.desk.specs.Desk.{deskBody}
 use Rattle.desk.specs.Served.{bytesFor, servedTable, servedCount, servedOut}

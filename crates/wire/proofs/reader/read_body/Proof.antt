@@ -4,9 +4,8 @@ use mathlib.Core.List.{List}
 use Prim.Native.Nat.{ℕ}
 use lib.ListN.{length, getD}
 use denote.Ref.{now}
-use Rattle.wire.specs.declared.kinds.Count.{Count}
-use Rattle.wire.specs.Kinds.{entriesOf}
-use Rattle.wire.specs.Answers.{countOf}
+use Rattle.kinds.specs.declared.Count.{Count}
+use Rattle.kinds.specs.Kinds.{entriesOf, countOf}
 use Rattle.wire.proofs.AnswerLaws.{answer-of-wrong, answer-of-count}
 use Rattle.wire.proofs.reader.read_body.Statement.{statement}
 use Rattle.wire.proofs.reader.read_body.Tie as tie

@@ -3,12 +3,13 @@
 use mathlib.Core.Path.{_≡_, _∙_, sym}
 use mathlib.Core.List.{List}
 use Prim.Native.Nat.{ℕ}
+use native.Mathlib.Omega.{arith}
 use denote.Ref.{now}
 use Rattle.wire.specs.declared.reader.BodyAnswer.{BodyAnswer}
 use Rattle.wire.specs.Body.{messageOf}
-use Rattle.wire.specs.Frame.{bodyTo, EndsAt, nextFrame}
+use Rattle.frames.specs.Frame.{bodyTo, EndsAt, nextFrame}
 use Rattle.wire.specs.Answers.{bodyAnswer, withEnd, readAnswer}
-use Rattle.wire.proofs.FrameLaws.{means-next}
+use Rattle.frames.proofs.FrameLaws.{means-next}
 use Rattle.wire.proofs.AnswerLaws.{part-of-answer, read-of-not-yet, read-of-bad}
 use Rattle.wire.proofs.reader.read_message.Statement.{statement}
 use Rattle.wire.proofs.reader.read_message.Tie as tie
@@ -32,10 +33,10 @@ module _ (c : tie.After-end) where
       part-of-answer bytesAt stop (nextFrame bytesAt) (means-next bytesAt) (sym (c .before .before .read-frame .ensures) ∙ c .end .given .1)
 
 sub-read-body : tie.Need-sub-read-body
-sub-read-body c = part (c .before) .0 .start
+sub-read-body c = let start = part (c .before) .0 .start in omega arith
 
 part-read-body-start : tie.Need-part-read-body-start
-part-read-body-start c = part (c .before) .0 .start
+part-read-body-start c = let start = part (c .before) .0 .start in omega arith
 
 part-read-body-end : tie.Need-part-read-body-end
 part-read-body-end c = part (c .before) .0 .within

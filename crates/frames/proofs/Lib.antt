@@ -1,0 +1,5 @@
+pub mod FrameLaws
+pub mod MoreLaws
+pub mod StreamLaws
+pub mod AnswerLaws
+pub mod TrialLaws

@@ -1,0 +1,3 @@
+pub mod CaseLaws
+pub mod KindsLaws
+pub mod LengthLaws

@@ -1,0 +1,3 @@
+pub mod WritingLaws
+pub mod MeaningLaws
+pub mod RoundLaws
