@@ -1,15 +1,17 @@
 -- What serving leaves, with room for the longest line and without. Assumes nothing.
-use mathlib.Core.Path.{_≡_, refl, sym, ap, _∙_}
+use mathlib.Core.Path.{_≡_, refl}
 use mathlib.Core.List.{List}
 use Prim.Native.Nat.{ℕ, _+_, _<_, _≤_}
 use lib.ListN.{length}
 use borrow.Author.Tests.{le-leb, lt-leb}
 use Rattle.endian.specs.Laid.{laid}
-use Rattle.lines.specs.Line.{Line, lineBytes}
-use Rattle.method.specs.declared.Table as method
+use Rattle.lines.specs.Line.{lineBytes}
 use Rattle.table.specs.declared.Table.{Table}
 use Rattle.table.specs.Shut.{shutTable}
-use Rattle.desk.specs.Desk.{deskBody}
+use Rattle.replies.specs.declared.Replied.{Replied}
+use Rattle.replies.specs.Desk.{deskBody}
+use Rattle.queries.specs.Said.{saidLine, spokenOf}
+use Rattle.queries.proofs.SaidLaws.{line-of-said}
 use Rattle.desk.specs.Served.{servedTable, servedCount, servedOut}
 
 module _ (t : Table) (b out : List ℕ) (place : ℕ) where
@@ -19,9 +21,12 @@ module _ (t : Table) (b out : List ℕ) (place : ℕ) where
   pub serves-nothing : length out < place + 358 → Serves t 0 out
   serves-nothing h = rw (lt-leb (place + 358) (length out) h) (refl, (refl, refl))
 
-  -- the line of x was written, and x is what the desk says
-  pub serves-line : place + 358 ≤ length out → (x : Line) (u : Table) (n : ℕ) (l : List ℕ)
-      → u ≡ shutTable (deskBody (t .held) b .0) → x ≡ deskBody (t .held) b .1
-      → (n ≡ length (lineBytes x)) × (l ≡ laid out place (lineBytes x)) → Serves u n l
-  serves-line h x u n l e f w =
-      rw (le-leb (place + 358) (length out) h) (e, (rw (← f) (w .0), rw (← f) (w .1)))
+  -- what was replied means the line that the desk owes, and that was written
+  pub serves-reply : place + 358 ≤ length out → (r : Replied)
+      → (r .table ≡ shutTable (deskBody (t .held) b .0)) × (r .spoken ≡ spokenOf (deskBody (t .held) b .1))
+      → (n at : ℕ) (l : List ℕ)
+      → (n ≡ length (lineBytes (saidLine (r .spoken .said) (r .spoken .numbers)))) × (l ≡ laid out at (lineBytes (saidLine (r .spoken .said) (r .spoken .numbers))))
+      → at ≡ place → Serves (r .table) n l
+  serves-reply h r e n at l w p =
+      let f : saidLine (r .spoken .said) (r .spoken .numbers) ≡ deskBody (t .held) b .1 = rw (e .1) (line-of-said (deskBody (t .held) b .1)) in
+      rw (le-leb (place + 358) (length out) h) (e .0, (rw (← f) (w .0), rw (← f, ← p) (w .1)))

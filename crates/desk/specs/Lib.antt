@@ -1,4 +1,1 @@
-pub mod Desk
 pub mod Served
-pub mod Asked
-pub mod Trials

@@ -7,7 +7,7 @@ use lib.ListN.{length}
 use Rattle.endian.specs.Laid.{hasRoom, laid}
 use Rattle.lines.specs.Line.{lineBytes}
 use Rattle.method.specs.declared.Table.{Table}
-use Rattle.desk.specs.Desk.{deskBody}
+use Rattle.replies.specs.Desk.{deskBody}
 
 abbrev pub roomFor : List ℕ → ℕ → Bool
 roomFor out place = hasRoom out place 358

@@ -1,14 +1,9 @@
-// The desk: one message's body on the table, to the new table and its line. RULES, The service.
+// The desk: one message's body on the table, to the new table and its line as text. RULES, The service.
 ghost use mathlib.Core.Path.{_≡_};
 ghost use Rattle.desk.specs.Served.{servedTable, servedCount, servedOut};
 ghost use Rattle.table.specs.Shut.{shutTable};
-use lines::Words;
 use table::Table;
-use wire::reader::BodyAnswer;
 
-mod lists;
-mod orders;
-mod replies;
 mod said;
 
 // The table after the message, and how many bytes its line has.
@@ -29,24 +24,14 @@ pub fn serve(t: Table, body: &[u8], out: &mut [u8], place: usize) -> Served
     if out.len() - 358 < place {
         return Served { table: t, count: 0 };
     }
-    match wire::reader::read_body(body) {
-        BodyAnswer::Wrong => {
-            let n = said::say(Words::Refused(10), out, place);
-            Served { table: t, count: n }
-        }
-        BodyAnswer::Request(q) => {
-            if replies::is_ordering(q) {
-                let n = orders::give(t, out, place);
-                return Served { table: t, count: n };
-            }
-            let r = replies::reply(t, q, body);
-            let after = r.table;
-            let words = r.words;
-            let n = said::say(words, out, place);
-            Served {
-                table: after,
-                count: n,
-            }
-        }
+    let r = replies::reply(t, body);
+    let after = r.table;
+    let spoken = r.spoken;
+    let said = spoken.said;
+    let numbers = spoken.numbers;
+    let n = said::say(said, &numbers, out, place);
+    Served {
+        table: after,
+        count: n,
     }
 }

@@ -19,9 +19,9 @@ use Rattle.runs.specs.Run.{Run, Run.call, after}
 use Rattle.runs.specs.History.{history}
 use Rattle.runs.proofs.InvariantLaws.{invariant-run}
 use Rattle.runs.proofs.KeptLaws.{rows-of-kept, kept-good, kept-ordered}
-use Rattle.desk.specs.Desk.{desk, deskRead, deskBody}
+use Rattle.replies.specs.Desk.{desk, deskRead, deskBody}
 use Rattle.turns.specs.Lines.{linesOf}
-use Rattle.desk.proofs.OrderedLaws.{body-never}
+use Rattle.replies.proofs.OrderedLaws.{body-never}
 
 -- the table of the service is at each message the table after some run of calls
 pub desk-run : (r : Run) (b : List ℕ) → (q : Run) × (deskBody (after r) b .0 ≡ after q)

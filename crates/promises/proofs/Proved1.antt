@@ -38,14 +38,14 @@ use Rattle.method.proofs.RecordLaws.{never}
 use Rattle.method.proofs.CallLaws.{refused-keeps as step-keeps, refused-exactly as step-refused}
 use Rattle.runs.proofs.FollowLaws.{follows, unknown-iff-over}
 use Rattle.table.specs.Shut.{shutTable}
-use Rattle.desk.specs.Desk.{told, desk, deskBody}
+use Rattle.replies.specs.Desk.{told, desk, deskBody}
 use Rattle.turns.specs.Lines.{linesOf}
 use Rattle.turns.specs.Turn.{turn}
 use Rattle.turns.proofs.PieceLaws.{turn-rest, pieces-whole}
 use Rattle.turns.proofs.PromptLaws.{turn-stops}
 use Rattle.promises.specs.Demand1.{callOf, Serves, Answered, RefusedKeeps, RefusedExactly, linesFor, Lines}
 use Rattle.promises.proofs.AnsweredLaws.{step-answered}
-use Rattle.desk.proofs.RefusalLaws.{body-keeps, ten-iff, desk-of-none, one-of-closed, four-of-open}
+use Rattle.replies.proofs.RefusalLaws.{body-keeps, ten-iff, desk-of-none, one-of-closed, four-of-open}
 
 pub answered : Answered
 answered t c a u (e, f) = rw e (step-answered (t .held) c)

@@ -24,7 +24,7 @@ use Rattle.runs.proofs.ReportedLaws.{history-commits, history-reported}
 use Rattle.promises.specs.Demand3.{OrderCheck, CCall, OrderWriter, History, KeptRows, NeverInStream}
 use Rattle.rows.proofs.WriteIffLaws.{bad-written, no-room-written, no-order-written, wrote-written, written-of-order}
 use Rattle.rows.proofs.JudgedIffLaws.{bad-iff, yes-iff, no-iff}
-use Rattle.desk.proofs.OrderedLaws.{body-never, desk-order, proposal-iff}
+use Rattle.replies.proofs.OrderedLaws.{body-never, desk-order, proposal-iff}
 use Rattle.promises.proofs.KeptLaws.{run-good, run-rows, run-ordered, flat-ordered, never-in-lines}
 
 -- an answer by its reply

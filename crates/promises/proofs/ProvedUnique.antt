@@ -5,6 +5,8 @@ use Rattle.square.proofs.AnswerLaws.{cycle-answer-unique, reached-answer-unique
 use Rattle.kept.proofs.OneListLaws.{aligned-unique}
 use Rattle.rows.proofs.ReplyLaws.{writeReply-injective, check-answer-unique}
 use Rattle.table.specs.declared.Table.{Table}
+use Rattle.queries.specs.declared.Spoken.{Spoken}
+use Rattle.replies.specs.declared.Replied.{Replied}
 use Rattle.desk.specs.declared.Served.{Served}
 use Rattle.turns.specs.declared.Turn.{Turn}
 use Rattle.turns.specs.Struct.{turnOf}
@@ -12,6 +14,13 @@ use Rattle.promises.specs.Unique.{EqualLeavesOne, Unique}
 
 same : {A : Type 0} (f x y : A) → x ≡ f → y ≡ f → x ≡ y
 same f x y p q = p ∙ sym q
+
+repliedOf : Table → Spoken → Replied
+repliedOf t s = record { table = t; spoken = s }
+
+replied-is : (a b : Replied) → a .table ≡ b .table → a .spoken ≡ b .spoken → a ≡ b
+unfolding repliedOf
+replied-is a b p q = let e : repliedOf (a .table) (a .spoken) ≡ repliedOf (b .table) (b .spoken) = cc in e
 
 servedOf : Table → ℕ → Served
 servedOf t n = record { table = t; count = n }
@@ -33,6 +42,7 @@ unique = record {
   message = λ body out place a b k l g h. (same _ a b (g .0) (h .0), same _ k l (g .1) (h .1));
   line = λ w out place a b k l g h. (same _ a b (g .0) (h .0), same _ k l (g .1) (h .1));
   order = λ numbers count out place a b k l g h. (same _ a b (g .0) (h .0), same _ k l (g .1) (h .1));
+  reply = λ t body a b g h. replied-is a b (g .0 ∙ sym (h .0)) (g .1 ∙ sym (h .1));
   serve = λ t body out place a b k l g h. (served-is a b (g .0 ∙ sym (h .0)) (g .1 ∙ sym (h .1)), same _ k l (g .2) (h .2));
   turn = λ t input last out a b k l g h. (turn-is a b (g .0 ∙ sym (h .0)) (g .1 ∙ sym (h .1)) (g .2 ∙ sym (h .2)) (g .3 ∙ sym (h .3)), same _ k l (g .4) (h .4));
   check = check-answer-unique;

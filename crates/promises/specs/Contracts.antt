@@ -31,6 +31,9 @@ use Rattle.method.specs.declared.Answer.{Answer}
 use Rattle.method.specs.Calls.{Call}
 use Rattle.table.specs.declared.Table.{Table}
 use Rattle.table.specs.Shut.{shutTable, answerTo, tableAfter}
+use Rattle.queries.specs.Said.{spokenOf}
+use Rattle.replies.specs.Desk.{deskBody}
+use Rattle.replies.specs.declared.Replied.{Replied}
 use Rattle.desk.specs.Served.{servedTable, servedCount, servedOut}
 use Rattle.desk.specs.declared.Served.{Served}
 use Rattle.turns.specs.declared.Turn.{Turn}
@@ -72,6 +75,10 @@ LineGives w out place n after = (n ≡ writtenCount out place (lineBytes (lineOf
 abbrev pub OrderGives : List ℕ → ℕ → List ℕ → ℕ → ℕ → List ℕ → Type 0
 OrderGives numbers count out place n after =
     (n ≡ writtenCount out place (lineBytes (order (take count numbers)))) × (after ≡ stored out place (lineBytes (order (take count numbers))))
+
+-- replies::reply(t, body)
+abbrev pub ReplyGives : Table → List ℕ → Replied → Type 0
+ReplyGives t b r = (r .table ≡ shutTable (deskBody (t .held) b .0)) × (r .spoken ≡ spokenOf (deskBody (t .held) b .1))
 
 -- desk::serve(t, body, out, place)
 abbrev pub ServeGives : Table → List ℕ → List ℕ → ℕ → Served → List ℕ → Type 0

@@ -33,7 +33,7 @@ use Rattle.method.specs.Effects.{step}
 use Rattle.runs.specs.Run.{Run, after, Happened, Opens, BegunIn, Over, begins}
 use Rattle.table.specs.declared.Table.{Table}
 use Rattle.desk.specs.declared.Served.{Served}
-use Rattle.desk.specs.Desk.{answerLine, deskBody}
+use Rattle.replies.specs.Desk.{answerLine, deskBody}
 use Rattle.turns.specs.declared.Turn.{Turn}
 use Rattle.turns.specs.Lines.{linesOf}
 use Rattle.turns.specs.Pieces.{joined, inPieces}

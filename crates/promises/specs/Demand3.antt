@@ -25,7 +25,7 @@ use Rattle.runs.specs.History.{history}
 use Rattle.wire.specs.Message.{proposing, ordering}
 use Rattle.frames.specs.Stream.{streamOf}
 use Rattle.lines.specs.Line.{Line}
-use Rattle.desk.specs.Desk.{desk, deskBody}
+use Rattle.replies.specs.Desk.{desk, deskBody}
 use Rattle.turns.specs.Lines.{linesOf}
 use Rattle.promises.specs.Contracts.{CheckGives, CCheckGives, WriteGives}
 

@@ -14,9 +14,10 @@ use Rattle.method.specs.declared.Answer.{Answer}
 use Rattle.method.specs.declared.Table as method
 use Rattle.method.specs.Calls.{Call}
 use Rattle.table.specs.declared.Table.{Table}
+use Rattle.replies.specs.declared.Replied.{Replied}
 use Rattle.desk.specs.declared.Served.{Served}
 use Rattle.turns.specs.declared.Turn.{Turn}
-use Rattle.promises.specs.Contracts.{CallGives, CheckGives, WriteGives, MessageGives, LineGives, OrderGives, ServeGives, TurnGives}
+use Rattle.promises.specs.Contracts.{CallGives, CheckGives, WriteGives, MessageGives, LineGives, OrderGives, ReplyGives, ServeGives, TurnGives}
 
 -- a contract `r ≡ ..` leaves one result, whatever stands behind: so of `ccheck`, of the readers in `frames` and `wire`, of `table`'s
 -- questions, and of all functions that are not named below
@@ -32,6 +33,7 @@ pub record Unique : Type 0 where
   pub line : (w : Words) (out : List ℕ) (place a b : ℕ) (k l : List ℕ) → LineGives w out place a k → LineGives w out place b l → (a ≡ b) × (k ≡ l)
   pub order : (numbers : List ℕ) (count : ℕ) (out : List ℕ) (place a b : ℕ) (k l : List ℕ)
       → OrderGives numbers count out place a k → OrderGives numbers count out place b l → (a ≡ b) × (k ≡ l)
+  pub reply : (t : Table) (body : List ℕ) (a b : Replied) → ReplyGives t body a → ReplyGives t body b → a ≡ b
   pub serve : (t : Table) (body out : List ℕ) (place : ℕ) (a b : Served) (k l : List ℕ) → ServeGives t body out place a k → ServeGives t body out place b l → (a ≡ b) × (k ≡ l)
   pub turn : (t : Table) (input : List ℕ) (last : Bool) (out : List ℕ) (a b : Turn) (k l : List ℕ) → TurnGives t input last out a k → TurnGives t input last out b l → (a ≡ b) × (k ≡ l)
   -- contracts that say it in other ways: checker::check, square::has_cycle, square::reached and kept::aligned

@@ -12,7 +12,7 @@ use Rattle.frames.specs.Stream.{Stream, ended, cutOff, framed, streamOf, contin
 use Rattle.frames.specs.Frame.{frameOf}
 use Rattle.frames.proofs.StreamLaws.{stream-of-append, stream-is, bytes-of-stream, well-formed-stream}
 use Rattle.method.specs.declared.Table.{Table}
-use Rattle.desk.specs.Desk.{deskBody}
+use Rattle.replies.specs.Desk.{deskBody}
 use Rattle.turns.specs.Lines.{linesOf, answerTo}
 use Rattle.turns.specs.Turn.{Turned, turn, roomy, stops, ends, behind, eleven}
 use Rattle.turns.specs.Pieces.{joined, inPieces}

@@ -12,7 +12,7 @@ use Rattle.frames.specs.Frame.{Cut, frameOf}
 use Rattle.frames.specs.Stream.{Stream, ended, cutOff, framed, streamOf, bytesOf, WellFormed}
 use Rattle.frames.proofs.StreamLaws.{bytes-of-stream, well-formed-stream}
 use Rattle.method.specs.declared.Table.{Table}
-use Rattle.desk.specs.Desk.{deskBody}
+use Rattle.replies.specs.Desk.{deskBody}
 use Rattle.turns.specs.Turn.{Turned, turn, roomy, stops, ends, behind}
 use Rattle.turns.proofs.PieceLaws.{drop-frame}
 

@@ -13,7 +13,7 @@ use Rattle.lines.proofs.LineLaws.{length-line-le}
 use Rattle.lines.proofs.WritingLaws.{written-of-358}
 use Rattle.turns.specs.Turn.{eleven}
 use Rattle.method.specs.declared.Table.{Table}
-use Rattle.desk.specs.Desk.{deskBody}
+use Rattle.replies.specs.Desk.{deskBody}
 use Rattle.desk.specs.Served.{servedTable, servedCount, servedOut, bytesFor}
 
 pub served-room : (t : Table) (b out : List ℕ) (place : ℕ) → place + 358 ≤ length out

@@ -21,7 +21,7 @@ use Rattle.frames.proofs.AnswerLaws.{bad-of-answer, not-yet-of-answer}
 use Rattle.frames.proofs.FrameLaws.{means-of-next, length-bodyTo}
 use Rattle.frames.proofs.StreamLaws.{bytes-of-stream, stream-of-nothing, stream-of-cut, stream-of-bad, stream-of-end}
 use Rattle.method.specs.declared.Table.{Table}
-use Rattle.desk.specs.Desk.{deskBody}
+use Rattle.replies.specs.Desk.{deskBody}
 use Rattle.table.specs.Shut.{shutTable}
 use Rattle.turns.specs.declared.Turn.{Turn}
 use Rattle.turns.specs.Struct.{turnOf}

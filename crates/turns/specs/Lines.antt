@@ -6,7 +6,7 @@ use Rattle.lines.specs.Line.{Line, refused}
 use Rattle.lines.specs.Reading.{outputBytes}
 use Rattle.frames.specs.Stream.{Stream, ended, cutOff, framed, streamOf}
 use Rattle.method.specs.declared.Table.{Table}
-use Rattle.desk.specs.Desk.{deskBody}
+use Rattle.replies.specs.Desk.{deskBody}
 
 unfoldable pub linesOf : Table → Stream → List Line
 linesOf t ended = []

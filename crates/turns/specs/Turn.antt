@@ -8,7 +8,7 @@ use lib.ListN.{length}
 use Rattle.lines.specs.Line.{Line, lineBytes, refused}
 use Rattle.frames.specs.Stream.{Stream, ended, cutOff, framed}
 use Rattle.method.specs.declared.Table.{Table}
-use Rattle.desk.specs.Desk.{deskBody}
+use Rattle.replies.specs.Desk.{deskBody}
 
 -- the table after it, how many input bytes were used, what was written, and whether reading is over
 pub record Turned : Type 0 where

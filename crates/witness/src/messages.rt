@@ -1,8 +1,9 @@
 // The reader and the writer of messages, the writer of lines, and what the service does with a message and with a turn.
-ghost use Rattle.promises.specs.Contracts.{BodyGives, FrameGives, ReadGives, MessageGives, LineGives, OrderGives, ServeGives, TurnGives};
+ghost use Rattle.promises.specs.Contracts.{BodyGives, FrameGives, ReadGives, MessageGives, LineGives, OrderGives, ReplyGives, ServeGives, TurnGives};
 use desk::Served;
 use frames::FrameAnswer;
 use lines::Words;
+use replies::Replied;
 use sending::WriteAnswer;
 use table::Table;
 use turns::Turn;
@@ -43,6 +44,12 @@ fn write_order(numbers: &[u32], count: usize, out: &mut [u8], place: usize) -> u
     ensures gives { λ r. ⌜ OrderGives (now (numbers .entry)) count (now (out .entry)) place r (now (out .exit)) ⌝ }
 {
     lines::write_order(numbers, count, out, place)
+}
+
+fn reply(t: Table, body: &[u8]) -> Replied
+    ensures gives { λ r. ⌜ ReplyGives t (now (body .entry)) r ⌝ }
+{
+    replies::reply(t, body)
 }
 
 fn serve(t: Table, body: &[u8], out: &mut [u8], place: usize) -> Served

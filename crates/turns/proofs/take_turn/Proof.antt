@@ -17,7 +17,7 @@ use Rattle.frames.specs.Stream.{streamOf}
 use Rattle.frames.specs.Answer.{frameAnswer, FrameMeans}
 use Rattle.frames.proofs.AnswerLaws.{frame-means}
 use Rattle.method.specs.declared.Table.{Table}
-use Rattle.desk.specs.Desk.{deskBody}
+use Rattle.replies.specs.Desk.{deskBody}
 use Rattle.desk.specs.Served.{bytesFor, servedTable, servedCount, servedOut}
 use Rattle.turns.specs.Turn.{Turned, turn, stops, ends, eleven}
 use Rattle.turns.proofs.RoomLaws.{served-room, laid-fits}

@@ -1,0 +1,3 @@
+mod PartLaws
+mod AnswerLaws
+pub mod SaidLaws

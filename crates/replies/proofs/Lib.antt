@@ -1,0 +1,6 @@
+mod PartsLaws
+mod AskedLaws
+pub mod TrialLaws
+pub mod RefusalLaws
+pub mod OrderedLaws
+mod RepliedLaws

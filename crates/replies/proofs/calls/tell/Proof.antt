@@ -1,0 +1,15 @@
+-- `replies::calls::tell` meets its contract: a call's answer is words, and has no numbers. Assumes nothing.
+use mathlib.Core.Path.{refl, ap, _∙_}
+use Rattle.queries.specs.Said.{spokenOf}
+use Rattle.queries.proofs.SaidLaws.{spoken-words}
+use Rattle.replies.proofs.calls.tell.Statement.{statement}
+use Rattle.replies.proofs.calls.tell.Tie as tie
+
+words-of-requires : tie.Need-words-of-requires
+words-of-requires c κs = tt
+
+returns : tie.Need-returns
+returns c = (refl, spoken-words (c .words-of .result) ∙ ap spokenOf (c .words-of .ensures))
+
+pub tell-spec : {M : Type 1} → statement M
+tell-spec = tie.close (tie.spec words-of-requires returns)

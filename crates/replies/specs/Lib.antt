@@ -1,0 +1,3 @@
+pub mod Desk
+pub mod Asked
+pub mod Trials
