@@ -1,8 +1,7 @@
 -- The kept rows of a run at the desk, and so in all lines of the service. Assumes nothing.
 use mathlib.Core.Path.{_≡_, refl, sym}
 use mathlib.Core.List.{List, List·Memᴰ·head as here, List·Memᴰ·tail as there, List·Memᴰ·not-nil}
-use mathlib.Core.Logic.{_≢_}
-use Prim.Native.Nat.{ℕ}
+use Prim.Native.Nat.{ℕ, _≤_}
 use native.Mathlib.Omega.{arith}
 use Rattle.graph.specs.Lists.{_∈_}
 use Rattle.rows.specs.Rows.{rowsOf}
@@ -21,7 +20,7 @@ use Rattle.runs.proofs.InvariantLaws.{invariant-run}
 use Rattle.runs.proofs.KeptLaws.{rows-of-kept, kept-good, kept-ordered}
 use Rattle.replies.specs.Desk.{desk, deskRead, deskBody}
 use Rattle.turns.specs.Lines.{linesOf}
-use Rattle.replies.proofs.OrderedLaws.{body-never}
+use Rattle.replies.proofs.OrderedLaws.{body-low}
 
 -- the table of the service is at each message the table after some run of calls
 pub desk-run : (r : Run) (b : List ℕ) → (q : Run) × (deskBody (after r) b .0 ≡ after q)
@@ -54,12 +53,12 @@ module _ (r : Run) where
   pub flat-ordered : (o : List ℕ) × InOrder (rowsOf (keptFlat (after r))) o
   flat-ordered = rw run-rows run-ordered
 
-pub never-in-lines : (s : Stream) (r : Run) (k : ℕ) → Line.refused k ∈ linesOf (after r) s → (k ≢ 12) × (k ≢ 13)
+pub never-in-lines : (s : Stream) (r : Run) (k : ℕ) → Line.refused k ∈ linesOf (after r) s → k ≤ 11
 unfolding linesOf
 never-in-lines ended r k i = absurd (List·Memᴰ·not-nil i)
-never-in-lines (cutOff l) r k (here e) = let f : k ≡ 11 = cc in (λ z. omega (arith, f, z), λ z. omega (arith, f, z))
+never-in-lines (cutOff l) r k (here e) = let f : k ≡ 11 = cc in omega (arith, f)
 never-in-lines (cutOff l) r k (there i) = absurd (List·Memᴰ·not-nil i)
-never-in-lines (Stream.refused l) r k (here e) = let f : k ≡ 11 = cc in (λ z. omega (arith, f, z), λ z. omega (arith, f, z))
+never-in-lines (Stream.refused l) r k (here e) = let f : k ≡ 11 = cc in omega (arith, f)
 never-in-lines (Stream.refused l) r k (there i) = absurd (List·Memᴰ·not-nil i)
-never-in-lines (framed b s) r k (here e) = body-never (after r) (run-good r) (flat-ordered r) k b (sym e)
+never-in-lines (framed b s) r k (here e) = omega (arith, body-low (after r) (run-good r) (flat-ordered r) k b (sym e))
 never-in-lines (framed b s) r k (there i) = let (q, e) = desk-run r b in never-in-lines s q k (rw e at i)

@@ -2,8 +2,8 @@
 -- of calls an order exists for all committed since the opening, forgotten ones too. proofs/Proved3.antt has a proof of each.
 use mathlib.Core.Path.{_≡_}
 use mathlib.Core.List.{List, _++_}
-use mathlib.Core.Logic.{_↔_, _≢_}
-use Prim.Native.Nat.{ℕ, _+_, _<_}
+use mathlib.Core.Logic.{_↔_}
+use Prim.Native.Nat.{ℕ, _+_, _<_, _≤_}
 use lib.ListN.{length, take, drop}
 use Rattle.graph.specs.Lists.{_∈_}
 use Rattle.graph.specs.Smallest.{SmallestFirst}
@@ -83,8 +83,8 @@ pub record KeptOf (r : Run) : Type 0 where
   pub rows : rowsOf (keptFlat (after r)) ≡ keptRows (after r)
   pub good : GoodRows (keptFlat (after r))
   pub ordered : (o : List ℕ) × InOrder (keptRows (after r)) o
-  -- so 12 and 13 are never answered, whatever the message is
-  pub never : (b : List ℕ) (k : ℕ) → deskBody (after r) b .1 ≡ Line.refused k → (k ≢ 12) × (k ≢ 13)
+  -- so a message is never answered 12 or 13, nor 11 or 14, whatever it is
+  pub never : (b : List ℕ) (k : ℕ) → deskBody (after r) b .1 ≡ Line.refused k → k ≤ 10
   -- an order is answered with an order, the smallest number first
   pub order : ¬ Closed (after r)
       → (o : List ℕ) × (desk (after r) ordering ≡ (after r, Line.order o)) × InOrder (keptRows (after r)) o × SmallestFirst RowArrow numberOf (keptRows (after r)) o
@@ -95,6 +95,6 @@ pub record KeptOf (r : Run) : Type 0 where
 abbrev pub KeptRows : Type 0
 KeptRows = (r : Run) → KeptOf r
 
--- no line of the service is 12 or 13, whatever bytes it reads
+-- no line of the service is 12, 13 or 14, whatever bytes it reads
 abbrev pub NeverInStream : Type 0
-NeverInStream = (l : List ℕ) (k : ℕ) → Line.refused k ∈ linesOf closed (streamOf l) → (k ≢ 12) × (k ≢ 13)
+NeverInStream = (l : List ℕ) (k : ℕ) → Line.refused k ∈ linesOf closed (streamOf l) → k ≤ 11

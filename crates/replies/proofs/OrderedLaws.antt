@@ -2,7 +2,7 @@
 use mathlib.Core.Path.{_≡_, refl, sym, ap, _∙_}
 use mathlib.Core.Bool.{Bool, true, false, cond}
 use mathlib.Core.List.{List}
-use mathlib.Core.Logic.{_↔_, _≢_, inl, inr}
+use mathlib.Core.Logic.{_↔_, inl, inr}
 use mathlib.Core.Option.{Option, none, some}
 use Prim.Native.Nat.{ℕ, _<_, _≤_}
 use native.Mathlib.Omega.{arith}
@@ -83,15 +83,12 @@ module _ (t : Table) (g : GoodRows (keptFlat t)) (x : (o : List ℕ) × InOrder 
     desk-low (proposing ns) = open-low (proposalLine (keptFlat t) ns) (λ e. not-refused (inOrderb rows ns) (sym (proposal-line ns (inOrderb rows ns) refl) ∙ e))
     desk-low ordering = open-low (orderLine (keptFlat t)) (λ e. let f = sym order-line ∙ e in never (cc))
 
-    body-low : (b : List ℕ) → deskBody t b .1 ≡ Line.refused k → k ≤ 10
+    pub body-low : (b : List ℕ) → deskBody t b .1 ≡ Line.refused k → k ≤ 10
     body-low b = go (messageOf b)
       where
         go : (o : Option Message) → deskRead t o .1 ≡ Line.refused k → k ≤ 10
         go none e = let f : 10 ≡ k = cc in omega (arith, f)
         go (some m) e = omega (arith, desk-low m e)
-
-    pub body-never : (b : List ℕ) → deskBody t b .1 ≡ Line.refused k → (k ≢ 12) × (k ≢ 13)
-    body-never b e = let l = body-low b e in (λ z. omega (arith, l, z), λ z. omega (arith, l, z))
 
   -- what an open table answers
   module _ (nc : ¬ Closed t) where
