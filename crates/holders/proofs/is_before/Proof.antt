@@ -1,8 +1,8 @@
--- `rivals::is_before` meets its contract. Assumes nothing.
+-- `holders::is_before` meets its contract. Assumes nothing.
 use mathlib.Core.Path.{sym}
 use borrow.Author.Tests.{lt-ltb, le-ltb}
-use Rattle.rivals.proofs.is_before.Statement.{statement}
-use Rattle.rivals.proofs.is_before.Tie as tie
+use Rattle.holders.proofs.is_before.Statement.{statement}
+use Rattle.holders.proofs.is_before.Tie as tie
 
 returns : tie.Need-returns
 returns c = sym (rw (lt-ltb _ _ (c .before .before .if1 .taken)))

@@ -1,4 +1,4 @@
--- `rivals::goes_before` meets its contract: what is found from site 0 on is what is found from site s on. Assumes nothing.
+-- `holders::goes_before` meets its contract: what is found from site 0 on is what is found from site s on. Assumes nothing.
 use mathlib.Core.Path.{_≡_, refl, sym, _∙_}
 use mathlib.Core.Bool.{Bool}
 use Prim.Native.Nat.{ℕ, _≤_, _-_}
@@ -10,8 +10,8 @@ use Rattle.method.specs.declared.Row.{Row}
 use Rattle.method.specs.Records.{ticketsOf, goesb}
 use Rattle.method.proofs.SearchLaws.{site-hit, site-skip, site-end, unmapped}
 use Rattle.method.proofs.RowLaws.{ticket-part, length-tickets}
-use Rattle.rivals.proofs.goes_before.Statement.{statement}
-use Rattle.rivals.proofs.goes_before.Tie as tie
+use Rattle.holders.proofs.goes_before.Statement.{statement}
+use Rattle.holders.proofs.goes_before.Tie as tie
 
 -- what sites s and later say
 abbrev from : ℕ → Row → Row → Bool

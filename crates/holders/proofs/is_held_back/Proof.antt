@@ -1,4 +1,4 @@
--- `rivals::is_held_back` meets its contract: what is found from the front is what is found from i on. Assumes nothing.
+-- `holders::is_held_back` meets its contract: what is found from the front is what is found from i on. Assumes nothing.
 use mathlib.Core.Path.{_≡_, sym, _∙_}
 use mathlib.Core.Bool.{Bool, _&&_}
 use Prim.Native.Nat.{_≤_, _-_}
@@ -13,8 +13,8 @@ use Rattle.method.specs.Slots.{activeRows}
 use Rattle.method.specs.Conditions.{heldBack}
 use Rattle.graph.proofs.SearchLaws.{any-hit, any-skip, any-end}
 use Rattle.method.proofs.SearchLaws.{unmapped, any-of-kept}
-use Rattle.rivals.proofs.is_held_back.Statement.{statement}
-use Rattle.rivals.proofs.is_held_back.Tie as tie
+use Rattle.holders.proofs.is_held_back.Statement.{statement}
+use Rattle.holders.proofs.is_held_back.Tie as tie
 
 abbrev test : Row → Row → Bool
 test r a = active a && leb (a .number .0) (r .last .0)

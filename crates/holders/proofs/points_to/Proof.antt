@@ -1,8 +1,8 @@
--- `rivals::points_to` meets its contract. Assumes nothing.
+-- `holders::points_to` meets its contract. Assumes nothing.
 use mathlib.Core.Path.{sym, _∙_}
 use borrow.Author.Needs.{needs}
-use Rattle.rivals.proofs.points_to.Statement.{statement}
-use Rattle.rivals.proofs.points_to.Tie as tie
+use Rattle.holders.proofs.points_to.Statement.{statement}
+use Rattle.holders.proofs.points_to.Tie as tie
 
 is-committed-requires : tie.Need-is-committed-requires
 is-committed-requires c κs = search needs

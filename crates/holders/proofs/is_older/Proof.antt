@@ -1,8 +1,8 @@
--- `rivals::is_older` meets its contract. Assumes nothing.
+-- `holders::is_older` meets its contract. Assumes nothing.
 use mathlib.Core.Path.{sym, _∙_}
 use borrow.Author.Needs.{needs}
-use Rattle.rivals.proofs.is_older.Statement.{statement}
-use Rattle.rivals.proofs.is_older.Tie as tie
+use Rattle.holders.proofs.is_older.Statement.{statement}
+use Rattle.holders.proofs.is_older.Tie as tie
 
 is-active-requires : tie.Need-is-active-requires
 is-active-requires c κs = search needs

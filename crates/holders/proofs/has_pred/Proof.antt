@@ -1,4 +1,4 @@
--- `rivals::has_pred` meets its contract: what is found from the front is what is found from i on. Assumes nothing.
+-- `holders::has_pred` meets its contract: what is found from the front is what is found from i on. Assumes nothing.
 use mathlib.Core.Path.{_≡_, sym, _∙_}
 use mathlib.Core.Bool.{Bool, _&&_}
 use Prim.Native.Nat.{_≤_, _-_}
@@ -12,8 +12,8 @@ use Rattle.method.specs.Slots.{kept}
 use Rattle.method.specs.Conditions.{hasPred}
 use Rattle.graph.proofs.SearchLaws.{any-hit, any-skip, any-end}
 use Rattle.method.proofs.SearchLaws.{unmapped, any-of-kept}
-use Rattle.rivals.proofs.has_pred.Statement.{statement}
-use Rattle.rivals.proofs.has_pred.Tie as tie
+use Rattle.holders.proofs.has_pred.Statement.{statement}
+use Rattle.holders.proofs.has_pred.Tie as tie
 
 abbrev test : Row → Row → Bool
 test r q = committed q && goesb q r
