@@ -35,6 +35,7 @@ module _ {row row′ : ℕ → Row} {i : ℕ} {r : Row} (ch : Changed row i r ro
     marked = omega (arith, f .unmarked);
     listed = λ s h. absurd (omega (arith, f .empty s));
     over = λ s h. absurd (omega (arith, f .empty s));
+    based = λ s h. omega (arith, f .bases s h);
     below = λ c. absurd (not-committed (f .is) c);
     ready = λ c. absurd (not-committed (f .is) c);
   }
@@ -47,6 +48,7 @@ module _ {row row′ : ℕ → Row} {i : ℕ} {r : Row} (ch : Changed row i r ro
     marked = omega (arith, o .marked);
     listed = o .listed;
     over = o .over;
+    based = o .based;
     below = o .below;
     ready = o .ready;
   }
@@ -54,14 +56,14 @@ module _ {row row′ : ℕ → Row} {i : ℕ} {r : Row} (ch : Changed row i r ro
   left : (j : ℕ) → j ≢ i → PairSound r (row j)
   left j n = record {
     numbers = λ h. omega (arith, f .number, v .rows j .counted);
-    tickets = λ s h. absurd (omega (arith, f .empty s));
+    tickets = λ c. absurd (not-committed (f .is) c);
     later = λ c. absurd (not-committed (f .is) c);
   }
 
   right : (j : ℕ) → j ≢ i → PairSound (row j) r
   right j n = record {
     numbers = λ h. omega (arith, f .number, v .rows j .counted);
-    tickets = λ s h. omega (arith, f .empty s);
+    tickets = λ c d. absurd (not-committed (f .is) d);
     later = λ c a h. above (ticketsOf (row j)) (v .rows j .below c);
   }
 

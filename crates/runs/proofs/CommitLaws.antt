@@ -1,4 +1,4 @@
--- An active row is committed: it and the kept rows make no cycle, its last number is the table's, and the highest tickets rise
+-- An active row is committed: it and the kept rows make no cycle, and it holds no ticket of theirs; its last number is the table's, and the highest tickets rise
 -- to its own. Then all that were ever committed make no cycle, and it differs from each of them. Assumes nothing.
 use mathlib.Core.Path.{_≡_, sym, ap, subst}
 use mathlib.Core.Logic.{_≢_, _⊎_, inl, inr}
@@ -16,7 +16,7 @@ use Rattle.method.specs.declared.Row.{Row}
 use Rattle.method.specs.Slots.{entryOf}
 use Rattle.method.specs.Records.{partAt, ticketsOf}
 use Rattle.method.proofs.RecordLaws.{never}
-use Rattle.runs.specs.Sound.{IsActive, IsCommitted, num, Has, base, tick, RowSound, PairSound, Past, Still, Gone, EntrySound, Sound}
+use Rattle.runs.specs.Sound.{IsActive, IsCommitted, num, Has, base, tick, Differs, RowSound, PairSound, Past, Still, Gone, EntrySound, Sound}
 use Rattle.runs.proofs.ChangeLaws.{Changed, not-committed, not-free, every, both, there, keeps}
 use Rattle.runs.proofs.NewestLaws.{Keeps, unpointed, no-clash, no-new-cycle}
 
@@ -26,12 +26,13 @@ pub record Sealed (last : ℕ) (q r : Row) : Type 0 where
   pub is : IsCommitted r
   pub same : entryOf r ≡ entryOf q
   pub sites : (s : ℕ) → Has q s → Has r s
+  pub sites′ : (s : ℕ) → Has r s → Has q s
   pub bases : (s : ℕ) → base r s ≡ base q s
   pub ready : (s : ℕ) → Has r s → partAt r s .stage ≡ Stage.Prepared
   pub mark : r .last .0 ≡ last
 
 module _ {row row′ : ℕ → Row} {i : ℕ} {r : Row} (ch : Changed row i r row′) (last : ℕ) (d : Sealed last (row i) r)
-    (ks : List Rows.Row) (kk : Keeps row ks) (fine : ¬ Cycle RowArrow (entryOf (row i) ∷ ks))
+    (ks : List Rows.Row) (kk : Keeps row ks) (fine : ¬ Cycle RowArrow (entryOf (row i) ∷ ks)) (new : (j : ℕ) → IsCommitted (row j) → Differs (row i) (row j))
     (high high′ : ℕ → ℕ) (up : (s : ℕ) → high s ≤ high′ s) (own : (s : ℕ) → tick (row i) s ≤ high′ s)
     (es : List Rows.Row) (v : Sound row high last es) where
   num-same : num r ≡ num (row i)
@@ -56,6 +57,7 @@ module _ {row row′ : ℕ → Row} {i : ℕ} {r : Row} (ch : Changed row i r ro
     marked = omega (arith, d .mark);
     listed = λ s h. d .sites s (old .listed s (omega (arith, tick-same s)));
     over = λ s h. omega (arith, tick-same s, d .bases s, old .over s (omega (arith, tick-same s)));
+    based = λ s h. omega (arith, d .bases s, old .based s (d .sites′ s h), up s);
     below = λ c s. omega (arith, tick-same s, own s);
     ready = λ c. d .ready;
   }
@@ -68,6 +70,7 @@ module _ {row row′ : ℕ → Row} {i : ℕ} {r : Row} (ch : Changed row i r ro
     marked = o .marked;
     listed = o .listed;
     over = o .over;
+    based = λ s h. omega (arith, o .based s h, up s);
     below = λ c s. omega (arith, o .below c s, up s);
     ready = o .ready;
   }
@@ -75,14 +78,14 @@ module _ {row row′ : ℕ → Row} {i : ℕ} {r : Row} (ch : Changed row i r ro
   left : (j : ℕ) → j ≢ i → PairSound r (row j)
   left j n = let p = v .pairs i j (λ e. n (sym e)) in record {
     numbers = λ h. omega (arith, num-same, p .numbers (omega (arith, num-same)));
-    tickets = λ s h. omega (arith, tick-same s, p .tickets s (omega (arith, tick-same s)));
+    tickets = λ c e s h. omega (arith, tick-same s, new j e s (omega (arith, tick-same s)));
     later = λ c a h. absurd (omega (arith, v .rows j .counted, d .mark));
   }
 
   right : (j : ℕ) → j ≢ i → PairSound (row j) r
   right j n = let p = v .pairs j i n in record {
     numbers = λ h. omega (arith, num-same, p .numbers h);
-    tickets = λ s h. omega (arith, tick-same s, p .tickets s h);
+    tickets = λ e c s h x. new j e s (omega (arith, x, tick-same s)) (omega (arith, x, tick-same s));
     later = λ c a. absurd (not-committed a (d .is));
   }
 
@@ -117,6 +120,6 @@ module _ {row row′ : ℕ → Row} {i : ℕ} {r : Row} (ch : Changed row i r ro
     pairs = both ch PairSound left right (v .pairs);
     entries = entries;
     noted = every ch (λ (x : Row). IsCommitted x → entryOf x ∈ entryOf (row i) ∷ es) (λ c. here (d .same)) (λ j n c. behind (v .noted j c));
-    apart = apart-of-cons (entryOf (row i)) es (no-clash v i (d .was)) (v .apart);
+    apart = apart-of-cons (entryOf (row i)) es (no-clash v i (d .was) new) (v .apart);
     acyclic = no-new-cycle v i (d .was) ks kk fine;
   }

@@ -1,6 +1,7 @@
--- A decision keeps the invariant: commit, if the candidate and the kept rows make no cycle, else the candidate's slot is freed.
+-- A decision keeps the invariant: commit, if the candidate fits, and it does if it makes no cycle with the kept rows; else its slot is
+-- freed.
 -- Assumes nothing.
-use mathlib.Core.Path.{_≡_, refl, sym, ap, _∙_}
+use mathlib.Core.Path.{_≡_, refl, sym, ap, subst, _∙_}
 use mathlib.Core.Bool.{Bool, true, false}
 use mathlib.Core.List.{List, _∷_, map}
 use mathlib.Core.Logic.{_≢_, _⊎_, inl, inr}
@@ -13,6 +14,7 @@ use Rattle.graph.specs.Path.{Cycle}
 use Rattle.graph.proofs.MemberLaws.{member-or-not}
 use Rattle.graph.proofs.TestLaws.{true-or-false, true-not-false}
 use Rattle.graph.proofs.MapLaws.{mapped-cycle-iff}
+use Rattle.rows.specs.Arrow.{ticketAt}
 use Rattle.rows.specs.Rows
 use Rattle.rows.specs.Rows.{RowArrow}
 use Rattle.sites.specs.Sites.{sitesOf}
@@ -22,16 +24,19 @@ use Rattle.method.specs.declared.Stage.{Stage}
 use Rattle.method.specs.declared.State.{State}
 use Rattle.method.specs.declared.Row.{Row}
 use Rattle.method.specs.declared.Table.{Table}
-use Rattle.method.specs.Records.{ticket, rowAt, partAt, highAt, isPrepared, ticketsOf, Goes}
+use Rattle.method.specs.Records.{ticket, pastEnd, rowAt, partAt, highAt, isPrepared, committed, ticketsOf, Goes}
 use Rattle.method.specs.Slots.{slotOf, rowOfNumber, kept, entryOf}
 use Rattle.method.specs.Conditions.{Closed, Unknown, NotReady}
 use Rattle.method.specs.Effects.{committedRow, raised, decided}
-use Rattle.method.proofs.RecordLaws.{never, prepared-iff}
+use Rattle.method.proofs.RecordLaws.{never, prepared-iff, committed-iff}
+use Rattle.method.proofs.SlotLaws.{kept-of-place, place-of-kept}
 use Rattle.method.proofs.RowLaws.{ticket-part, length-raised, raised-other, raised-listed}
-use Rattle.runs.specs.Sound.{IsActive, Has, tick, Sound}
+use Rattle.runs.specs.Sound.{IsActive, IsCommitted, Has, tick, Differs, Sound}
+use Rattle.runs.specs.Orderly.{Fits}
 use Rattle.runs.specs.Invariant.{Invariant}
 use Rattle.runs.proofs.ChangeLaws.{not-committed}
 use Rattle.runs.proofs.CommitLaws.{Sealed, sound-committed}
+use Rattle.runs.proofs.OrderlyLaws.{orderly-changed}
 use Rattle.runs.proofs.ShapeLaws.{shape-set}
 use Rattle.runs.proofs.KnownLaws.{found, changed, keeps-kept}
 use Rattle.runs.proofs.DropLaws.{invariant-freed}
@@ -68,7 +73,7 @@ module _ (t : Table) (es : List Rows.Row) (v : Invariant t es) (n : ℕ) (nc : �
 
   sealed : Sealed (t .last .0) q (committedRow t q)
   unfolding committedRow entryOf ticketsOf
-  sealed = record { was = is-ready; is = refl; same = refl; sites = λ s m. m; bases = λ s. refl; ready = ready; mark = refl }
+  sealed = record { was = is-ready; is = refl; same = refl; sites = λ s m. m; sites′ = λ s m. m; bases = λ s. refl; ready = ready; mark = refl }
 
   abbrev high′ : ℕ → ℕ
   high′ s = getD (raised q (sitesOf (q .sites)) (t .high)) s (ticket 0) .0
@@ -95,13 +100,26 @@ module _ (t : Table) (es : List Rows.Row) (v : Invariant t es) (n : ℕ) (nc : �
       none (yes l) = omega arith
       none (no l) = elim (raised-at s) [ inl e ↦ omega (arith, e .1) | inr e ↦ absurd (e .0 (v .sound .rows at .listed s (omega arith))) ]
 
-  pub invariant-commit : ¬ Cycle Goes (q ∷ kept t) → Invariant (decided t n true .table) (entryOf q ∷ es)
-  unfolding decided committedRow
-  invariant-commit fine = record {
+  -- what the optimistic method owes: the test, and that no two slots hold the same ticket
+  pub fits-of-test : ¬ Cycle Goes (q ∷ kept t) → Fits t q
+  unfolding kept
+  fits-of-test fine = record {
+    acyclic = fine;
+    apart = λ r m.
+        let (j, h, e, c) = place-of-kept committed (t .rows) pastEnd m in
+        let k : IsCommitted (rowAt t j) = committed-iff (rowAt t j .state) .0 (rw e c) in
+        subst (Differs q) e (v .orderly at j (λ x. not-committed is-ready (rw x k)));
+  }
+
+  pub invariant-commit : Fits t q → Invariant (decided t n true .table) (entryOf q ∷ es)
+  unfolding decided committedRow entryOf kept
+  invariant-commit fits = record {
     shape = shape-set t (decided t n true .table) at (committedRow t q) (v .shape) slot refl refl (length-raised q (sitesOf (q .sites)) (t .high) ∙ v .shape .highs)
         (v .shape .parts at (omega (arith, slot, v .shape .slots))) (λ f. never (cc)) (v .shape .own at);
     sound = sound-committed (changed t at (committedRow t q) slot) (t .last .0) sealed (map entryOf (kept t)) (keeps-kept t)
-        (entries-acyclic (q ∷ kept t) fine) (highAt t) high′ up own es (v .sound);
+        (entries-acyclic (q ∷ kept t) (fits .acyclic))
+        (λ j c. fits .apart (rowAt t j) (kept-of-place committed (t .rows) j pastEnd refl (committed-iff (rowAt t j .state) .1 c))) (highAt t) high′ up own es (v .sound);
+    orderly = orderly-changed (changed t at (committedRow t q) slot) (λ s. inl (ap (λ (y : Rows.Row). ticketAt (y .tickets) s) (sealed .same))) (v .orderly);
     shut = λ c. absurd (nc c);
   }
 

@@ -17,6 +17,7 @@ use Rattle.runs.specs.Sound.{IsFree, IsActive, IsCommitted, num, Past, G
 use Rattle.runs.specs.Invariant.{Invariant}
 use Rattle.runs.proofs.ChangeLaws.{Changed, not-committed, not-free, every}
 use Rattle.runs.proofs.FreeLaws.{Blank, sound-freed, blank-past}
+use Rattle.runs.proofs.OrderlyLaws.{orderly-freed}
 use Rattle.runs.proofs.ShapeLaws.{shape-set}
 use Rattle.runs.proofs.KnownLaws.{found, changed, blank-free, no-site-free, later-of-free, unpointed-of-free}
 
@@ -39,6 +40,7 @@ pub invariant-freed : (t : Table) (es : List Rows.Row) (i : ℕ) → Invariant t
 invariant-freed t es i v nc h past = record {
   shape = shape-set t (withRow t i freeRow) i freeRow (v .shape) h refl refl (v .shape .highs) refl (λ f. refl) (λ s m. absurd (no-site-free s m));
   sound = sound-freed (rowAt t) (rowAt (withRow t i freeRow)) free lost (highAt t) (t .last .0) es (v .sound);
+  orderly = orderly-freed (rowAt t) (rowAt (withRow t i freeRow)) free (v .orderly);
   shut = λ c. absurd (nc c);
 }
   where

@@ -29,7 +29,7 @@ use Rattle.runs.specs.Invariant.{Invariant}
 use Rattle.runs.proofs.OpenLaws.{invariant-closed, invariant-open, invariant-begin}
 use Rattle.runs.proofs.ReportLaws.{invariant-ticket, invariant-prepared}
 use Rattle.runs.proofs.DropLaws.{invariant-abort, invariant-forget}
-use Rattle.runs.proofs.DecideLaws.{invariant-commit, invariant-cycle}
+use Rattle.runs.proofs.DecideLaws.{fits-of-test, invariant-commit, invariant-cycle}
 use Rattle.runs.proofs.SweepLaws.{invariant-sweep}
 
 pub closed-of-not-not : (t : Table) → ¬ ¬ Closed t → Closed t
@@ -46,7 +46,7 @@ invariant-effect t es (abort m) v (a, (b, (c, n))) = invariant-abort t es m v a 
 invariant-effect t es (decide m) v (a, (b, (c, n))) = go (acyclic arrowb (ticketsOf (rowOfNumber t m) ∷ map ticketsOf (kept t))) refl
   where
     go : (x : Bool) → acyclic arrowb (ticketsOf (rowOfNumber t m) ∷ map ticketsOf (kept t)) ≡ x → Invariant (decided t m x .table) (noted t (decided t m x .answer) es)
-    go true e = invariant-commit t es v m a b c (no-cycle-iff (rowOfNumber t m) (kept t) .0 e)
+    go true e = invariant-commit t es v m a b c (fits-of-test t es v m a b c (no-cycle-iff (rowOfNumber t m) (kept t) .0 e))
     go false e = invariant-cycle t es v m a b c
 invariant-effect t es (forget m) v (a, (b, (c, (d, n)))) = invariant-forget t es m v a b d
 invariant-effect t es sweep v (a, n) = invariant-sweep t es v a

@@ -39,15 +39,16 @@ unfolding entryOf
 apart-of-slots [] n p = apart-of-nil
 apart-of-slots (x ∷ rs) n p = go (true-or-false (committed x)) (apart-of-slots rs (λ i. n (suc i)) (λ i j d. p (suc i) (suc j) (λ e. d (omega arith))))
   where
-    differ : committed x ≡ true → (j : ℕ) (r : Row) → getD rs j pastEnd ≡ r → ¬ Clash (entryOf x) (entryOf r)
-    differ c j r e (inl k) = p zero (suc j) (λ z. omega arith) .numbers (n zero (not-free-of-committed x c)) (rw e k)
-    differ c j r e (inr (s, h, k)) = p zero (suc j) (λ z. omega arith) .tickets s h (rw e k)
+    differ : committed x ≡ true → (j : ℕ) (r : Row) → getD rs j pastEnd ≡ r → committed r ≡ true → ¬ Clash (entryOf x) (entryOf r)
+    differ c j r e d (inl k) = p zero (suc j) (λ z. omega arith) .numbers (n zero (not-free-of-committed x c)) (rw e k)
+    differ c j r e d (inr (s, h, k)) =
+        p zero (suc j) (λ z. omega arith) .tickets (committed-iff (x .state) .0 c) (rw e (committed-iff (r .state) .0 d)) s h (rw e k)
 
     no-clash : committed x ≡ true → (e : Rows.Row) → e ∈ map entryOf (keep committed rs) → ¬ Clash (entryOf x) e
     no-clash c e m =
         let (r, l, q) = Memᴰ·of-map entryOf (keep committed rs) m in
         let (j, h, f, d) = place-of-kept committed rs pastEnd l in
-        rw (sym q) (differ c j r f)
+        rw (sym q) (differ c j r f d)
 
     go : (committed x ≡ true) ⊎ (committed x ≡ false) → Apart (map entryOf (keep committed rs)) → Apart (map entryOf (keep committed (x ∷ rs)))
     go (inl c) a = rw (keep-of-true committed x rs c) (apart-of-cons (entryOf x) (map entryOf (keep committed rs)) (no-clash c) a)

@@ -50,14 +50,14 @@ changed t i r h = set-cases (t .rows) i r pastEnd h
 pub tick-zero : (r : Row) → ((s : ℕ) → getD (r .parts) s noPart ≡ noPart) → (s : ℕ) → tick r s ≡ 0
 tick-zero r z s = rw (ticket-part r s, z s)
 
-pub blank-free : Blank freeRow
-blank-free = record { free = refl; number = refl; tickets = tick-zero freeRow (λ s. getD-replicate-same 8 s noPart); last = refl }
-
-pub blank-past-end : Blank pastEnd
-blank-past-end = record { free = refl; number = refl; tickets = tick-zero pastEnd (λ s. refl); last = refl }
-
 pub no-site-free : (s : ℕ) → ¬ Has freeRow s
 no-site-free s m = List·Memᴰ·not-nil (rw sites-zero at m)
+
+pub blank-free : Blank freeRow
+blank-free = record { free = refl; number = refl; tickets = tick-zero freeRow (λ s. getD-replicate-same 8 s noPart); last = refl; sites = no-site-free }
+
+pub blank-past-end : Blank pastEnd
+blank-past-end = record { free = refl; number = refl; tickets = tick-zero pastEnd (λ s. refl); last = refl; sites = no-site-free }
 
 -- the kept rows, by slots
 pub keeps-kept : (t : Table) → Keeps (rowAt t) (map entryOf (kept t))

@@ -1,5 +1,6 @@
 pub mod ChangeLaws
 pub mod FreeLaws
+pub mod OrderlyLaws
 pub mod MarkLaws
 pub mod BeginLaws
 pub mod NewestLaws

@@ -1,5 +1,5 @@
 -- An active row took a ticket, or was marked prepared: number, sites and bases stayed, and a new ticket stands at a listed site,
--- above the base, and no other row holds it. Assumes nothing.
+-- above the base. Assumes nothing.
 use mathlib.Core.Path.{_≡_, sym}
 use mathlib.Core.Logic.{_≢_, _⊎_, inl, inr}
 use mathlib.Core.List.{List}
@@ -14,8 +14,8 @@ use Rattle.method.specs.Slots.{entryOf}
 use Rattle.runs.specs.Sound.{IsActive, IsCommitted, num, Has, base, tick, Above, RowSound, PairSound, Past, Still, Gone, Sound}
 use Rattle.runs.proofs.ChangeLaws.{Changed, not-committed, not-free, every, both, keeps}
 
--- what a mark may change in row q to give r, beside the other rows
-pub record Marked (row : ℕ → Row) (i : ℕ) (q r : Row) : Type 0 where
+-- what a mark may change in row q to give r
+pub record Marked (q r : Row) : Type 0 where
   pub was : IsActive q
   pub is : IsActive r
   pub number : num r ≡ num q
@@ -23,9 +23,9 @@ pub record Marked (row : ℕ → Row) (i : ℕ) (q r : Row) : Type 0 where
   pub sites : (s : ℕ) → Has q s → Has r s
   pub sites′ : (s : ℕ) → Has r s → Has q s
   pub bases : (s : ℕ) → base r s ≡ base q s
-  pub tickets : (s : ℕ) → (tick r s ≡ tick q s) ⊎ (Has q s × (base q s < tick r s) × ((j : ℕ) → j ≢ i → tick r s ≢ tick (row j) s))
+  pub tickets : (s : ℕ) → (tick r s ≡ tick q s) ⊎ (Has q s × (base q s < tick r s))
 
-module _ {row row′ : ℕ → Row} {i : ℕ} {r : Row} (ch : Changed row i r row′) (m : Marked row i (row i) r) where
+module _ {row row′ : ℕ → Row} {i : ℕ} {r : Row} (ch : Changed row i r row′) (m : Marked (row i) r) where
   above : (ts : Tickets) → Above (row i) ts → Above r ts
   unfolding Above
   above ts a s h = omega (arith, a s (m .sites′ s h), m .bases s)
@@ -42,6 +42,7 @@ module _ {row row′ : ℕ → Row} {i : ℕ} {r : Row} (ch : Changed row i r ro
       marked = omega (arith, old .marked, m .last);
       listed = λ s h. elim (m .tickets s) [ inl e ↦ m .sites s (old .listed s (omega arith)) | inr k ↦ m .sites s (k .0) ];
       over = λ s h. elim (m .tickets s) [ inl e ↦ omega (arith, m .bases s, old .over s (omega arith)) | inr k ↦ omega (arith, m .bases s) ];
+      based = λ s h. omega (arith, m .bases s, old .based s (m .sites′ s h));
       below = λ c. absurd (not-committed (m .is) c);
       ready = λ c. absurd (not-committed (m .is) c);
     }
@@ -49,14 +50,14 @@ module _ {row row′ : ℕ → Row} {i : ℕ} {r : Row} (ch : Changed row i r ro
     left : (j : ℕ) → j ≢ i → PairSound r (row j)
     left j n = let p = v .pairs i j (λ e. n (sym e)) in record {
       numbers = λ h. omega (arith, m .number, p .numbers (omega (arith, m .number)));
-      tickets = λ s h. elim (m .tickets s) [ inl e ↦ omega (arith, p .tickets s (omega arith)) | inr k ↦ k .2 j n ];
+      tickets = λ c. absurd (not-committed (m .is) c);
       later = λ c. absurd (not-committed (m .is) c);
     }
 
     right : (j : ℕ) → j ≢ i → PairSound (row j) r
     right j n = let p = v .pairs j i n in record {
       numbers = λ h. omega (arith, m .number, p .numbers h);
-      tickets = λ s h. elim (m .tickets s) [ inl e ↦ omega (arith, p .tickets s h) | inr k ↦ omega (arith, k .2 j n) ];
+      tickets = λ c d. absurd (not-committed (m .is) d);
       later = λ c a h. above (ticketsOf (row j)) (p .later c (m .was) (omega (arith, m .number)));
     }
 

@@ -15,7 +15,7 @@ use Rattle.rows.specs.Good.{Clash}
 use Rattle.method.specs.declared.Row.{Row}
 use Rattle.method.specs.Records.{ticketsOf}
 use Rattle.method.specs.Slots.{entryOf}
-use Rattle.runs.specs.Sound.{IsActive, IsCommitted, num, tick, Above, Past, Still, Gone, Sound}
+use Rattle.runs.specs.Sound.{IsActive, IsCommitted, num, tick, Above, Differs, Past, Still, Gone, Sound}
 use Rattle.runs.proofs.ChangeLaws.{not-committed, not-free}
 
 -- these are the kept rows
@@ -32,13 +32,13 @@ module _ {row : ℕ → Row} {high : ℕ → ℕ} {last : ℕ} {es : List Rows.R
   pub unpointed : (e : Rows.Row) → Past e (row i) → ¬ Arrow (ticketsOf (row i)) (e .tickets)
   unpointed e p (s, h) = omega (arith, beyond e p s (h .0))
 
-  pub no-clash : (e : Rows.Row) → e ∈ es → ¬ Clash (entryOf (row i)) e
+  pub no-clash : ((j : ℕ) → IsCommitted (row j) → Differs (row i) (row j)) → (e : Rows.Row) → e ∈ es → ¬ Clash (entryOf (row i)) e
   unfolding entryOf
-  no-clash e m = go (v .entries e m .place)
+  no-clash new e m = go (v .entries e m .place)
     where
-      still : (j : ℕ) → j ≢ i → ¬ Clash (entryOf (row i)) (entryOf (row j))
-      still j n (inl p) = v .pairs i j (λ q. n (sym q)) .numbers (v .rows i .named (not-free was)) p
-      still j n (inr (s, h, p)) = v .pairs i j (λ q. n (sym q)) .tickets s h p
+      still : (j : ℕ) → j ≢ i → IsCommitted (row j) → ¬ Clash (entryOf (row i)) (entryOf (row j))
+      still j n c (inl p) = v .pairs i j (λ q. n (sym q)) .numbers (v .rows i .named (not-free was)) p
+      still j n c (inr (s, h, p)) = new j c s h p
 
       gone : Gone row e → ¬ Clash (entryOf (row i)) e
       gone g (inl p) = g i .other was p
@@ -46,7 +46,7 @@ module _ {row : ℕ → Row} {high : ℕ → ℕ} {last : ℕ} {es : List Rows.R
 
       go : Still row e ⊎ Gone row e → ¬ Clash (entryOf (row i)) e
       go (inl k) = subst (λ (x : Rows.Row). ¬ Clash (entryOf (row i)) x) (k .2)
-          (still (k .0) (λ q. not-committed was (subst (λ (j : ℕ). IsCommitted (row j)) q (k .1))))
+          (still (k .0) (λ q. not-committed was (subst (λ (j : ℕ). IsCommitted (row j)) q (k .1))) (k .1))
       go (inr g) = gone g
 
   module _ (ks : List Rows.Row) (kk : Keeps row ks) where

@@ -31,6 +31,7 @@ use Rattle.runs.specs.Invariant.{Shape, Invariant}
 use Rattle.runs.proofs.ChangeLaws.{Changed}
 use Rattle.runs.proofs.FreeLaws.{Blank, blank-row, blank-left}
 use Rattle.runs.proofs.BeginLaws.{Fresh, sound-begun}
+use Rattle.runs.proofs.OrderlyLaws.{orderly-empty, orderly-changed}
 use Rattle.runs.proofs.ShapeLaws.{shape-set}
 use Rattle.runs.proofs.KnownLaws.{changed, tick-zero, blank-free, blank-past-end, no-site-free}
 
@@ -74,7 +75,7 @@ module _ (t : Table) (free : t .rows ≡ replicate 32 freeRow) where
       none i u (no l) m = no-site-free u (rw (past-slot i (omega arith)) at m)
 
 pub invariant-closed : Invariant closed []
-invariant-closed = record { shape = shape-empty closed refl refl (omega arith); sound = sound-empty (rowAt closed) (highAt closed) 0 (all-blank closed refl); shut = λ c. (refl, refl) }
+invariant-closed = record { shape = shape-empty closed refl refl (omega arith); sound = sound-empty (rowAt closed) (highAt closed) 0 (all-blank closed refl); orderly = orderly-empty (rowAt closed) (all-blank closed refl); shut = λ c. (refl, refl) }
 
 length-padded : (k : ℕ) (fs : List ℕ) → length (padded k fs) ≡ k
 unfolding padded
@@ -87,6 +88,7 @@ unfolding opened
 invariant-open t es first floors v c b = subst (Invariant (opened first floors)) (sym (v .shut c .0)) (record {
   shape = shape-empty (opened first floors) refl (length-padded 8 floors) few;
   sound = sound-empty (rowAt (opened first floors)) (highAt (opened first floors)) _ (all-blank (opened first floors) refl);
+  orderly = orderly-empty (rowAt (opened first floors)) (all-blank (opened first floors) refl);
   shut = λ k. absurd (b (inl k));
 })
   where
@@ -138,6 +140,7 @@ invariant-begin t es sites v nc bs nf = record {
   shape = shape-set t (withRow (withLast t (number (t .last .0 + 1))) (freeSlot t) (newRow t sites)) (freeSlot t) (newRow t sites) (v .shape) slot refl refl (v .shape .highs)
       (new-length t sites) (λ f. never (cc)) (λ s m. own s m (decLt s (t .sites)));
   sound = sound-begun (changed t (freeSlot t) (newRow t sites) slot) unused (highAt t) (t .last .0) (fresh t sites) es (v .sound);
+  orderly = orderly-changed (changed t (freeSlot t) (newRow t sites) slot) (λ s. inr (inl (fresh t sites .empty s))) (v .orderly);
   shut = λ c. absurd (nc c);
 }
   where

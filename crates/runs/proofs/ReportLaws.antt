@@ -32,14 +32,15 @@ use Rattle.method.proofs.RowLaws.{ticket-part, reported-same, reported-other, l
 use Rattle.runs.specs.Sound.{IsFree, IsActive, IsCommitted, num, Has, base, tick, Sound}
 use Rattle.runs.specs.Invariant.{Invariant}
 use Rattle.runs.proofs.MarkLaws.{Marked, sound-marked}
+use Rattle.runs.proofs.OrderlyLaws.{orderly-changed}
 use Rattle.runs.proofs.ShapeLaws.{shape-set}
 use Rattle.runs.proofs.KnownLaws.{Found, found, changed}
 
--- what a new ticket may be: the old one, or one at a listed site, above the base, that no other slot holds
-abbrev New : (ℕ → Row) → ℕ → ℕ → ℕ → Type 0
-New row i s k = (k ≡ tick (row i) s) ⊎ (Has (row i) s × (base (row i) s < k) × ((j : ℕ) → j ≢ i → k ≢ tick (row j) s))
+-- what a new ticket may be: the old one, or one at a listed site, above the base
+abbrev New : Row → ℕ → ℕ → Type 0
+New q s k = (k ≡ tick q s) ⊎ (Has q s × (base q s < k))
 
-module _ (row : ℕ → Row) (i s : ℕ) (p : Report) (k : Ticket) (l : s < length (row i .parts)) (new : New row i s (k .0)) where
+module _ (row : ℕ → Row) (i s : ℕ) (p : Report) (k : Ticket) (l : s < length (row i .parts)) (new : New (row i) s (k .0)) where
   abbrev r : Row
   r = reported (row i) s p k
 
@@ -50,14 +51,28 @@ module _ (row : ℕ → Row) (i s : ℕ) (p : Report) (k : Ticket) (l : s < leng
       go (yes e) = rw e (ap (λ (x : Part). x .base .0) (reported-same (row i) s p k l))
       go (no n) = ap (λ (x : Part). x .base .0) (reported-other (row i) s p k u n)
 
-  tickets : (u : ℕ) → New row i u (tick r u)
+  tickets : (u : ℕ) → New (row i) u (tick r u)
   tickets u = go (ℕ-discrete u s)
     where
-      go : Dec (u ≡ s) → New row i u (tick r u)
-      go (yes e) = rw e (subst (New row i s) (sym (ticket-part r s ∙ ap (λ (x : Part). x .ticket .0) (reported-same (row i) s p k l))) new)
+      go : Dec (u ≡ s) → New (row i) u (tick r u)
+      go (yes e) = rw e (subst (New (row i) s) (sym (ticket-part r s ∙ ap (λ (x : Part). x .ticket .0) (reported-same (row i) s p k l))) new)
       go (no n) = inl (ticket-part r u ∙ ap (λ (x : Part). x .ticket .0) (reported-other (row i) s p k u n) ∙ sym (ticket-part (row i) u))
 
-  marked : IsActive (row i) → Marked row i (row i) r
+  -- the same of a ticket that no other slot holds
+  apart : (k .0 ≡ tick (row i) s) ⊎ ((j : ℕ) → j ≢ i → k .0 ≢ tick (row j) s)
+      → (u : ℕ) → (tick r u ≡ tick (row i) u) ⊎ ((tick r u ≡ 0) ⊎ ((j : ℕ) → j ≢ i → tick r u ≢ tick (row j) u))
+  apart a u = go (ℕ-discrete u s) a
+    where
+      set : tick r s ≡ k .0
+      set = ticket-part r s ∙ ap (λ (x : Part). x .ticket .0) (reported-same (row i) s p k l)
+
+      go : Dec (u ≡ s) → (k .0 ≡ tick (row i) s) ⊎ ((j : ℕ) → j ≢ i → k .0 ≢ tick (row j) s)
+          → (tick r u ≡ tick (row i) u) ⊎ ((tick r u ≡ 0) ⊎ ((j : ℕ) → j ≢ i → tick r u ≢ tick (row j) u))
+      go (yes e) (inl q) = inl (rw e (set ∙ q))
+      go (yes e) (inr f) = inr (inr (λ j n. rw e (λ x. f j n (sym set ∙ x))))
+      go (no n) q = inl (ticket-part r u ∙ ap (λ (x : Part). x .ticket .0) (reported-other (row i) s p k u n) ∙ sym (ticket-part (row i) u))
+
+  marked : IsActive (row i) → Marked (row i) r
   unfolding reported
   marked a = record { was = a; is = a; number = refl; last = refl; sites = λ u h. h; sites′ = λ u h. h; bases = bases; tickets = tickets }
 
@@ -96,12 +111,13 @@ module _ (t : Table) (es : List Rows.Row) (v : Invariant t es) (n s : ℕ) (p : 
       go State.Active e = e
       go State.Committed e = absurd (not-prepared (partAt q s .stage) p ns (v .sound .rows at .ready e s has))
 
-  invariant-report : (k : Ticket) → New (rowAt t) at s (k .0) → Invariant (withRow t at (reported q s p k)) es
+  invariant-report : (k : Ticket) → New q s (k .0) → (k .0 ≡ tick q s) ⊎ ((j : ℕ) → j ≢ at → k .0 ≢ tick (rowAt t j) s) → Invariant (withRow t at (reported q s p k)) es
   unfolding reported
-  invariant-report k new = record {
+  invariant-report k new alone = record {
     shape = shape-set t (withRow t at (reported q s p k)) at (reported q s p k) (v .shape) slot refl refl (v .shape .highs)
         (length-reported q s p k ∙ v .shape .parts at (omega (arith, slot, v .shape .slots))) (λ f. let a = is-active in never (cc)) (v .shape .own at);
     sound = sound-marked (changed t at (reported q s p k) slot) (marked (rowAt t) at s p k inside new is-active) (highAt t) (t .last .0) es (v .sound);
+    orderly = orderly-changed (changed t at (reported q s p k) slot) (apart (rowAt t) at s p k inside new alone) (v .orderly);
     shut = λ c. absurd (nc c);
   }
 
@@ -116,7 +132,7 @@ pub invariant-ticket : (t : Table) (es : List Rows.Row) (n s k : ℕ) → Invari
     → ¬ NoStep (rowOfNumber t n) s Report.Ticket → ¬ NotAbove (rowOfNumber t n) s k → ¬ Taken t n s k → Invariant (effect t (reportTicket n s k) .table) es
 unfolding effect
 invariant-ticket t es n s k v nc nu nl ns na nt =
-    invariant-report t es v n s Report.Ticket nc nu nl ns (ticket k) (inr (has t es v n s Report.Ticket nc nu nl ns, high, other))
+    invariant-report t es v n s Report.Ticket nc nu nl ns (ticket k) (inr (has t es v n s Report.Ticket nc nu nl ns, high)) (inr other)
   where
     q : Row
     q = rowOfNumber t n
@@ -152,4 +168,4 @@ pub invariant-prepared : (t : Table) (es : List Rows.Row) (n s : ℕ) → Invari
     → ¬ NoStep (rowOfNumber t n) s Report.Prepared → Invariant (effect t (reportPrepared n s) .table) es
 unfolding effect
 invariant-prepared t es n s v nc nu nl ns =
-    invariant-report t es v n s Report.Prepared nc nu nl ns (partAt (rowOfNumber t n) s .ticket) (inl (sym (ticket-part (rowOfNumber t n) s)))
+    invariant-report t es v n s Report.Prepared nc nu nl ns (partAt (rowOfNumber t n) s .ticket) (inl (sym (ticket-part (rowOfNumber t n) s))) (inl (sym (ticket-part (rowOfNumber t n) s)))

@@ -25,6 +25,7 @@ use Rattle.method.proofs.GraphLaws.{stays-iff}
 use Rattle.runs.specs.Sound.{IsCommitted, Past, Gone}
 use Rattle.runs.specs.Invariant.{Invariant}
 use Rattle.runs.proofs.FreeLaws.{Blank, sound-freed, blank-past}
+use Rattle.runs.proofs.OrderlyLaws.{orderly-freed}
 use Rattle.runs.proofs.ShapeLaws.{shape-freed}
 use Rattle.runs.proofs.KnownLaws.{blank-free, no-site-free, later-of-free}
 use Rattle.runs.proofs.DropLaws.{past-of-loose}
@@ -84,6 +85,7 @@ module _ (t : Table) where
   invariant-sweep es v nc = record {
     shape = shape-freed t (sweptTable t) (v .shape) (length-map (t .rows) (sweptRow t) ∙ v .shape .slots) refl refl slot-cases no-site-free;
     sound = sound-freed (rowAt t) row′ free lost (highAt t) (t .last .0) es (v .sound);
+    orderly = orderly-freed (rowAt t) row′ free (v .orderly);
     shut = λ k. absurd (nc k);
   }
     where

@@ -1,4 +1,5 @@
--- The invariant of a table: the shape of its lists, and what specs/Sound.antt says of its slots and sites.
+-- The invariant of a table: the shape of its lists, what every method keeps (specs/Sound.antt), and what this one adds
+-- (specs/Orderly.antt).
 use mathlib.Core.Path.{_≡_}
 use mathlib.Core.List.{List, []}
 use Prim.Native.Nat.{ℕ, _≤_, _<_}
@@ -8,6 +9,7 @@ use Rattle.method.specs.declared.Table.{Table}
 use Rattle.method.specs.Records.{freeRow, closed, rowAt, highAt}
 use Rattle.method.specs.Conditions.{Closed}
 use Rattle.runs.specs.Sound.{IsFree, Has, Sound}
+use Rattle.runs.specs.Orderly.{Orderly}
 
 pub record Shape (t : Table) : Type 0 where
   -- 32 slots of 8 sites each, and 8 highest tickets
@@ -23,5 +25,6 @@ pub record Shape (t : Table) : Type 0 where
 pub record Invariant (t : Table) (es : List Rows.Row) : Type 0 where
   pub shape : Shape t
   pub sound : Sound (rowAt t) (highAt t) (t .last .0) es
+  pub orderly : Orderly (rowAt t)
   -- before the opening nothing was committed, and the table is all zeros
   pub shut : Closed t → (es ≡ []) × (t ≡ closed)

@@ -44,6 +44,10 @@ tick r s = ticketAt (ticketsOf r) s
 unfoldable pub Above : Row → Tickets → Type 0
 Above r ts = (s : ℕ) → Has r s → ticketAt ts s ≤ base r s
 
+-- no ticket of q is also r's
+abbrev pub Differs : Row → Row → Type 0
+Differs q r = (s : ℕ) → 0 < tick q s → tick q s ≢ tick r s
+
 -- of one slot
 pub record RowSound (high : ℕ → ℕ) (last : ℕ) (r : Row) : Type 0 where
   -- a free one holds no ticket
@@ -55,7 +59,8 @@ pub record RowSound (high : ℕ → ℕ) (last : ℕ) (r : Row) : Type 0 where
   -- a ticket stands at a listed site, above the base there
   pub listed : (s : ℕ) → 0 < tick r s → Has r s
   pub over : (s : ℕ) → 0 < tick r s → base r s < tick r s
-  -- the highest ticket is at least each committed one
+  -- a base is at most the highest ticket, and each committed ticket is
+  pub based : (s : ℕ) → Has r s → base r s ≤ high s
   pub below : IsCommitted r → (s : ℕ) → tick r s ≤ high s
   -- each site of a committed one is prepared
   pub ready : IsCommitted r → (s : ℕ) → Has r s → partAt r s .stage ≡ Stage.Prepared
@@ -63,7 +68,7 @@ pub record RowSound (high : ℕ → ℕ) (last : ℕ) (r : Row) : Type 0 where
 -- of two slots
 pub record PairSound (q r : Row) : Type 0 where
   pub numbers : 0 < num q → num q ≢ num r
-  pub tickets : (s : ℕ) → 0 < tick q s → tick q s ≢ tick r s
+  pub tickets : IsCommitted q → IsCommitted r → Differs q r
   -- one begun after this commit starts above it
   pub later : IsCommitted q → IsActive r → q .last .0 < num r → Above r (ticketsOf q)
 
