@@ -2,13 +2,13 @@
 ghost use mathlib.Core.Path.{_≡_};
 ghost use Prim.Native.Nat.{_<_, _≤_, _/_};
 ghost use lib.ListN.{length};
-ghost use Rattle.rows.specs.Arrow.{ticketAt};
-ghost use Rattle.rows.specs.Rows.{rowAt, rowArrowb};
+ghost use Rattle.orders.specs.Arrow.{ticketAt};
+ghost use Rattle.orders.specs.Entries.{entryAt, entryArrowb};
 
 // The ticket of row i at a site; where the list ends before it there is none.
 fn ticket_of(rows: &[u32], i: usize, s: usize) -> u32
     requires { ⌜ (i ≤ length (now rows) / 9) × (s < 8) ⌝ }
-    ensures answer { λ r. ⌜ r ≡ ticketAt (rowAt (now (rows .entry)) i .tickets) s ⌝ }
+    ensures answer { λ r. ⌜ r ≡ ticketAt (entryAt (now (rows .entry)) i .tickets) s ⌝ }
 {
     let k = 9 * i + 1 + s;
     // a whole row: one test for all its sites, which the compiler makes once
@@ -21,7 +21,7 @@ fn ticket_of(rows: &[u32], i: usize, s: usize) -> u32
 // Has row a an arrow to row b? A row past the list holds no ticket, so that it has no arrows. All eight sites are looked at, so
 // that the loop has no branch.
 pub fn goes_before(rows: &[u32], a: usize, b: usize) -> bool
-    ensures answer { λ r. ⌜ r ≡ rowArrowb (rowAt (now (rows .entry)) a) (rowAt (now (rows .entry)) b) ⌝ }
+    ensures answer { λ r. ⌜ r ≡ entryArrowb (entryAt (now (rows .entry)) a) (entryAt (now (rows .entry)) b) ⌝ }
 {
     let n = rows.len() / 9;
     // past the list the place of a ticket might wrap

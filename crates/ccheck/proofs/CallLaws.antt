@@ -9,17 +9,17 @@ use lib.ListN.{length}
 use borrow.Author.Tests.{eq-eqb, ne-eqb, le-leb, lt-leb}
 use Rattle.endian.specs.Bytes.{words}
 use Rattle.endian.proofs.WordsLaws.{length-words}
-use Rattle.rows.specs.declared.CheckAnswer.{CheckAnswer}
-use Rattle.rows.specs.declared.CheckAnswer.the-variants.{Bad, Yes, No}
-use Rattle.rows.specs.Rows.{rowsOf}
-use Rattle.rows.specs.Good.{goodb}
-use Rattle.rows.specs.Judged.{judged}
-use Rattle.rows.specs.Reply.{checkReply}
-use Rattle.rows.specs.Reply.Reply.{refused, yes, no}
-use Rattle.rows.specs.Order.{inOrderb, checkResult}
-use Rattle.rows.specs.CCall.{goodBytesb, orderBytesb, callResult}
-use Rattle.rows.proofs.GoodLaws.{goodb→good}
-use Rattle.rows.proofs.OrderLaws.{no-order-of-length}
+use Rattle.orders.specs.declared.CheckAnswer.{CheckAnswer}
+use Rattle.orders.specs.declared.CheckAnswer.the-variants.{Bad, Yes, No}
+use Rattle.orders.specs.Entries.{entriesIn}
+use Rattle.orders.specs.Good.{goodb}
+use Rattle.orders.specs.Judged.{judged}
+use Rattle.orders.specs.Reply.{checkReply}
+use Rattle.orders.specs.Reply.Reply.{refused, yes, no}
+use Rattle.orders.specs.Order.{inOrderb, checkResult}
+use Rattle.orders.specs.CCall.{goodBytesb, orderBytesb, callResult}
+use Rattle.orders.proofs.GoodLaws.{goodb→good}
+use Rattle.orders.proofs.OrderLaws.{no-order-of-length}
 use Rattle.ccheck.specs.Answer.{answerNumber, replyNumber, byteResult}
 
 number-of-reply : (a : CheckAnswer) → replyNumber (checkReply a) ≡ answerNumber a
@@ -43,13 +43,13 @@ module _ (flat order : List ℕ) where
 
   module _ (w : length order % 4 ≡ 0) where
     pub result-of-many : 128 < length order → judged 13 1 0 (goodb flat) false ≡ byteResult flat order
-    result-of-many h = rw (eq-eqb (length order % 4) 0 w) (judged-of-wrong (goodb flat) (inOrderb (rowsOf flat) (words order)) (λ e.
+    result-of-many h = rw (eq-eqb (length order % 4) 0 w) (judged-of-wrong (goodb flat) (inOrderb (entriesIn flat) (words order)) (λ e.
         no-order-of-length flat (words order) (λ l. omega (arith, goodb→good flat e .few, length-words order))))
 
     pub result-of-check : (a : CheckAnswer) → checkReply a ≡ checkResult flat (words order) → answerNumber a ≡ byteResult flat order
     unfolding checkResult
     result-of-check a e = rw (eq-eqb (length order % 4) 0 w)
-        (sym (number-of-reply a) ∙ ap replyNumber e ∙ number-of-judged (goodb flat) (inOrderb (rowsOf flat) (words order)))
+        (sym (number-of-reply a) ∙ ap replyNumber e ∙ number-of-judged (goodb flat) (inOrderb (entriesIn flat) (words order)))
 
 module _ (rows order : List ℕ) where
   pub call-of-part : ¬ (length rows % 36 ≡ 0) → callResult rows order ≡ 13

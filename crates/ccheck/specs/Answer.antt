@@ -5,14 +5,14 @@ use Prim.Native.Nat.{ℕ, _%_}
 use lib.Dec.{eqb}
 use lib.ListN.{length}
 use Rattle.endian.specs.Bytes.{words}
-use Rattle.rows.specs.declared.CheckAnswer.{CheckAnswer}
-use Rattle.rows.specs.declared.CheckAnswer.the-variants.{Bad, Yes, No}
-use Rattle.rows.specs.Rows.{rowsOf}
-use Rattle.rows.specs.Good.{goodb}
-use Rattle.rows.specs.Judged.{judged}
-use Rattle.rows.specs.Reply.{Reply}
-use Rattle.rows.specs.Reply.Reply.{refused, yes, no, wrote}
-use Rattle.rows.specs.Order.{inOrderb}
+use Rattle.orders.specs.declared.CheckAnswer.{CheckAnswer}
+use Rattle.orders.specs.declared.CheckAnswer.the-variants.{Bad, Yes, No}
+use Rattle.orders.specs.Entries.{entriesIn}
+use Rattle.orders.specs.Good.{goodb}
+use Rattle.orders.specs.Judged.{judged}
+use Rattle.orders.specs.Reply.{Reply}
+use Rattle.orders.specs.Reply.Reply.{refused, yes, no, wrote}
+use Rattle.orders.specs.Order.{inOrderb}
 
 abbrev pub answerNumber : CheckAnswer → ℕ
 answerNumber Bad = 13
@@ -28,4 +28,4 @@ replyNumber (wrote k) = 0
 
 -- what is answered of rows that were read and an order still in bytes
 abbrev pub byteResult : List ℕ → List ℕ → ℕ
-byteResult flat order = judged 13 1 0 (goodb flat) (eqb (length order % 4) 0 && inOrderb (rowsOf flat) (words order))
+byteResult flat order = judged 13 1 0 (goodb flat) (eqb (length order % 4) 0 && inOrderb (entriesIn flat) (words order))

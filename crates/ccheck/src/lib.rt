@@ -2,14 +2,14 @@
 // RULES, The C call.
 ghost use mathlib.Core.Path.{_≡_};
 ghost use mathlib.Core.Bool.{false};
-ghost use Rattle.rows.specs.Good.{goodb};
-ghost use Rattle.rows.specs.Judged.{judged};
-ghost use Rattle.rows.specs.CCall.{callResult};
+ghost use Rattle.orders.specs.Good.{goodb};
+ghost use Rattle.orders.specs.Judged.{judged};
+ghost use Rattle.orders.specs.CCall.{callResult};
 ghost use Rattle.ccheck.specs.Answer.{answerNumber, byteResult};
 use checker::check;
 use endian::get_words;
 use good::is_good;
-use rows::CheckAnswer;
+use orders::CheckAnswer;
 
 fn number_of(a: CheckAnswer) -> u32
     ensures answer { λ r. ⌜ r ≡ answerNumber a ⌝ }

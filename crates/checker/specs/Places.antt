@@ -5,12 +5,12 @@ use Prim.Native.Nat.{ℕ}
 use lib.Dec.{eqb}
 use Rattle.graph.specs.Smallest.{placed}
 use Rattle.graph.specs.Check.{unready}
-use Rattle.rows.specs.Rows.{Row, numberOf, rowArrowb}
+use Rattle.orders.specs.Entries.{Entry, numberOf, entryArrowb}
 
 -- y has an arrow to x, and does not stand before
-abbrev pub holdsUp : List ℕ → Row → Row → Bool
-holdsUp before x y = rowArrowb y x && not (placed numberOf before y)
+abbrev pub holdsUp : List ℕ → Entry → Entry → Bool
+holdsUp before x y = entryArrowb y x && not (placed numberOf before y)
 
 -- x has the number n, and all its predecessors stand before
-abbrev pub fitting : List Row → List ℕ → ℕ → Row → Bool
-fitting rows before n x = eqb (numberOf x) n && not (unready rowArrowb numberOf rows before x)
+abbrev pub fitting : List Entry → List ℕ → ℕ → Entry → Bool
+fitting rows before n x = eqb (numberOf x) n && not (unready entryArrowb numberOf rows before x)

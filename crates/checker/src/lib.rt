@@ -1,11 +1,11 @@
 // The check of a proposed order of a ticket table. It trusts nobody: the table is looked at first, and then each place of the
 // order by itself. RULES, Orders.
 ghost use mathlib.Core.Path.{_≡_};
-ghost use Rattle.rows.specs.Reply.{checkReply};
-ghost use Rattle.rows.specs.Order.{checkResult};
+ghost use Rattle.orders.specs.Reply.{checkReply};
+ghost use Rattle.orders.specs.Order.{checkResult};
 use good::is_good;
+use orders::CheckAnswer;
 use places::may_stand;
-use rows::CheckAnswer;
 
 mod places;
 

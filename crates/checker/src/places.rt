@@ -3,7 +3,7 @@ ghost use mathlib.Core.Path.{_≡_};
 ghost use lib.Dec.{eqb};
 ghost use Rattle.graph.specs.Lists.{anyOf};
 ghost use Rattle.graph.specs.Check.{unready, mayStand};
-ghost use Rattle.rows.specs.Rows.{numberOf, rowArrowb, rowAt, rowsOf};
+ghost use Rattle.orders.specs.Entries.{numberOf, entryArrowb, entryAt, entriesIn};
 ghost use Rattle.checker.specs.Places.{holdsUp, fitting};
 use arrows::goes_before;
 use good::entries::number_at;
@@ -23,7 +23,7 @@ fn is_named(before: &[u32], n: u32) -> bool
 
 // Has row j an arrow to row i, without standing before?
 fn holds_up(rows: &[u32], before: &[u32], j: usize, i: usize) -> bool
-    ensures answer { λ r. ⌜ r ≡ holdsUp (now (before .entry)) (rowAt (now (rows .entry)) i) (rowAt (now (rows .entry)) j) ⌝ }
+    ensures answer { λ r. ⌜ r ≡ holdsUp (now (before .entry)) (entryAt (now (rows .entry)) i) (entryAt (now (rows .entry)) j) ⌝ }
 {
     if goes_before(rows, j, i) {
         let n = number_at(rows, j);
@@ -35,7 +35,7 @@ fn holds_up(rows: &[u32], before: &[u32], j: usize, i: usize) -> bool
 
 // Must row i still wait for a predecessor?
 fn is_unready(rows: &[u32], before: &[u32], i: usize) -> bool
-    ensures answer { λ r. ⌜ r ≡ unready rowArrowb numberOf (rowsOf (now (rows .entry))) (now (before .entry)) (rowAt (now (rows .entry)) i) ⌝ }
+    ensures answer { λ r. ⌜ r ≡ unready entryArrowb numberOf (entriesIn (now (rows .entry))) (now (before .entry)) (entryAt (now (rows .entry)) i) ⌝ }
 {
     let n = rows.len() / 9;
     let mut j: usize = 0;
@@ -50,7 +50,7 @@ fn is_unready(rows: &[u32], before: &[u32], i: usize) -> bool
 
 // Has row i the number, and need it not wait?
 fn fits(rows: &[u32], before: &[u32], n: u32, i: usize) -> bool
-    ensures answer { λ r. ⌜ r ≡ fitting (rowsOf (now (rows .entry))) (now (before .entry)) n (rowAt (now (rows .entry)) i) ⌝ }
+    ensures answer { λ r. ⌜ r ≡ fitting (entriesIn (now (rows .entry))) (now (before .entry)) n (entryAt (now (rows .entry)) i) ⌝ }
 {
     if number_at(rows, i) == n {
         !is_unready(rows, before, i)
@@ -60,7 +60,7 @@ fn fits(rows: &[u32], before: &[u32], n: u32, i: usize) -> bool
 }
 
 fn has_fit(rows: &[u32], before: &[u32], n: u32) -> bool
-    ensures answer { λ r. ⌜ r ≡ anyOf (fitting (rowsOf (now (rows .entry))) (now (before .entry)) n) (rowsOf (now (rows .entry))) ⌝ }
+    ensures answer { λ r. ⌜ r ≡ anyOf (fitting (entriesIn (now (rows .entry))) (now (before .entry)) n) (entriesIn (now (rows .entry))) ⌝ }
 {
     let m = rows.len() / 9;
     let mut i: usize = 0;
@@ -75,7 +75,7 @@ fn has_fit(rows: &[u32], before: &[u32], n: u32) -> bool
 
 // Not named before, and the number of a row whose predecessors all stand before.
 pub(crate) fn may_stand(rows: &[u32], before: &[u32], n: u32) -> bool
-    ensures answer { λ r. ⌜ r ≡ mayStand rowArrowb numberOf (rowsOf (now (rows .entry))) (now (before .entry)) n ⌝ }
+    ensures answer { λ r. ⌜ r ≡ mayStand entryArrowb numberOf (entriesIn (now (rows .entry))) (now (before .entry)) n ⌝ }
 {
     if is_named(before, n) {
         return false;

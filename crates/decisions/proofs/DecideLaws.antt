@@ -5,9 +5,9 @@ use mathlib.Core.List.{List, [], _∷_, map}
 use Prim.Native.Nat.{ℕ, _<_}
 use lib.ListN.{length}
 use Rattle.graph.specs.Acyclic.{acyclic}
-use Rattle.rows.specs.Arrow.{arrowb}
-use Rattle.square.specs.Square.{TellsCycle}
-use Rattle.square.proofs.SlottedLaws.{acyclic-of-answer}
+use Rattle.orders.specs.Arrow.{arrowb}
+use Rattle.paths.specs.Paths.{TellsCycle}
+use Rattle.paths.proofs.SlottedLaws.{acyclic-of-answer}
 use Rattle.method.specs.declared.Table.{Table}
 use Rattle.method.specs.declared.Answer.{Answer}
 use Rattle.method.specs.Records.{rowAt, ticketsOf}

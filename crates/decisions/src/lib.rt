@@ -22,7 +22,7 @@ fn commit(t: Table, slot: usize, n: Number) -> Answered
     let x = row.sites;
     let parts = row.parts;
     let last = t.last;
-    let high = walks::raised(t.high, row);
+    let high = parts::raised(t.high, row);
     let done = Row {
         state: State::Committed,
         number: number,
@@ -59,11 +59,11 @@ pub fn decide(t: Table, n: Number) -> Answered
         Gate::Refused(k) => records::refuse(t, k),
         Gate::At(slot) => {
             let row = t.rows[slot];
-            if !walks::is_ready(row) {
+            if !parts::is_ready(row) {
                 return records::refuse(t, 4);
             }
             let flat = kept::aligned(t, slot);
-            if square::has_cycle(flat) {
+            if paths::has_cycle(flat) {
                 return cancel(t, slot, n);
             }
             commit(t, slot, n)

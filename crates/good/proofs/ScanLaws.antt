@@ -8,9 +8,9 @@ use lib.Dec.{eqb}
 use lib.ListN.{length}
 use borrow.Author.Tests.{eq-eqb, ne-eqb, le-leb, lt-leb}
 use Rattle.graph.specs.Lists.{anyOf}
-use Rattle.rows.specs.Rows.{Row, rowAt, rowsFrom, rowsOf}
-use Rattle.rows.specs.Good.{clash, apartb, goodb}
-use Rattle.rows.proofs.WalkLaws.{rows-more, rows-end}
+use Rattle.orders.specs.Entries.{Entry, entryAt, entriesFrom, entriesIn}
+use Rattle.orders.specs.Good.{clash, apartb, goodb}
+use Rattle.orders.proofs.WalkLaws.{rows-more, rows-end}
 use Rattle.good.specs.Scan.{restGood}
 
 module _ (flat : List ℕ) where
@@ -24,7 +24,7 @@ module _ (flat : List ℕ) where
 
   -- whole rows, and few enough: the rest decides
   pub good-of-rest : length flat % 9 ≡ 0 → length flat ≤ 288 → goodb flat ≡ restGood flat 0 (length flat / 9)
-  unfolding goodb rowsOf
+  unfolding goodb entriesIn
   good-of-rest w f =
       let e : length flat / 9 - 0 ≡ length flat / 9 = omega arith in
       rw (eq-eqb (length flat % 9) 0 w, le-leb (length flat) 288 f, e)
@@ -35,14 +35,14 @@ module _ (flat : List ℕ) where
     rest-end h = rw (rows-end flat i n h)
 
     module _ (h : i < n) where
-      pub rest-of-unnamed : rowAt flat i .number ≡ 0 → restGood flat i n ≡ false
-      rest-of-unnamed z = rw (rows-more flat i n h, eq-eqb (rowAt flat i .number) 0 z)
+      pub rest-of-unnamed : entryAt flat i .number ≡ 0 → restGood flat i n ≡ false
+      rest-of-unnamed z = rw (rows-more flat i n h, eq-eqb (entryAt flat i .number) 0 z)
 
-      pub rest-of-clash : anyOf (clash (rowAt flat i)) (rowsFrom flat (i + 1) (n - (i + 1))) ≡ true → restGood flat i n ≡ false
+      pub rest-of-clash : anyOf (clash (entryAt flat i)) (entriesFrom flat (i + 1) (n - (i + 1))) ≡ true → restGood flat i n ≡ false
       unfolding apartb
-      rest-of-clash e = rw (rows-more flat i n h, e) (and-false (not (anyOf (λ r. eqb (r .number) 0) (rowAt flat i ∷ rowsFrom flat (i + 1) (n - (i + 1))))))
+      rest-of-clash e = rw (rows-more flat i n h, e) (and-false (not (anyOf (λ r. eqb (r .number) 0) (entryAt flat i ∷ entriesFrom flat (i + 1) (n - (i + 1))))))
 
-      pub rest-of-more : (rowAt flat i .number ≡ 0 → ⊥) → anyOf (clash (rowAt flat i)) (rowsFrom flat (i + 1) (n - (i + 1))) ≡ false
+      pub rest-of-more : (entryAt flat i .number ≡ 0 → ⊥) → anyOf (clash (entryAt flat i)) (entriesFrom flat (i + 1) (n - (i + 1))) ≡ false
           → restGood flat i n ≡ restGood flat (i + 1) n
       unfolding apartb
-      rest-of-more z e = rw (rows-more flat i n h, ne-eqb (rowAt flat i .number) 0 z, e)
+      rest-of-more z e = rw (rows-more flat i n h, ne-eqb (entryAt flat i .number) 0 z, e)

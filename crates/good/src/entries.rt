@@ -2,12 +2,12 @@
 ghost use mathlib.Core.Path.{_≡_};
 ghost use Prim.Native.Nat.{_<_, _/_};
 ghost use lib.ListN.{length};
-ghost use Rattle.rows.specs.Arrow.{ticketAt};
-ghost use Rattle.rows.specs.Rows.{rowAt};
+ghost use Rattle.orders.specs.Arrow.{ticketAt};
+ghost use Rattle.orders.specs.Entries.{entryAt};
 
 // The number of row i; past the list it is 0.
 pub fn number_at(rows: &[u32], i: usize) -> u32
-    ensures answer { λ r. ⌜ r ≡ rowAt (now (rows .entry)) i .number ⌝ }
+    ensures answer { λ r. ⌜ r ≡ entryAt (now (rows .entry)) i .number ⌝ }
 {
     // past the list the place of a number might wrap
     if rows.len() / 9 < i {
@@ -19,7 +19,7 @@ pub fn number_at(rows: &[u32], i: usize) -> u32
 
 pub(crate) fn ticket_at(rows: &[u32], i: usize, s: usize) -> u32
     requires { ⌜ (i < length (now rows) / 9) × (s < 8) ⌝ }
-    ensures answer { λ r. ⌜ r ≡ ticketAt (rowAt (now (rows .entry)) i .tickets) s ⌝ }
+    ensures answer { λ r. ⌜ r ≡ ticketAt (entryAt (now (rows .entry)) i .tickets) s ⌝ }
 {
     rows[9 * i + 1 + s]
 }

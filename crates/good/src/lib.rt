@@ -3,8 +3,8 @@ ghost use mathlib.Core.Path.{_≡_};
 ghost use Prim.Native.Nat.{_+_, _-_, _/_, _<_};
 ghost use lib.ListN.{length};
 ghost use Rattle.graph.specs.Lists.{anyOf};
-ghost use Rattle.rows.specs.Rows.{rowAt, rowsFrom};
-ghost use Rattle.rows.specs.Good.{clash, goodb};
+ghost use Rattle.orders.specs.Entries.{entryAt, entriesFrom};
+ghost use Rattle.orders.specs.Good.{clash, goodb};
 use entries::number_at;
 use entries::ticket_at;
 
@@ -13,7 +13,7 @@ pub mod entries;
 // Have rows i and j the same number, or the same ticket at a site? All are compared, so that the loop has no branch.
 fn clashes(rows: &[u32], i: usize, j: usize) -> bool
     requires { ⌜ (i < length (now rows) / 9) × (j < length (now rows) / 9) ⌝ }
-    ensures answer { λ r. ⌜ r ≡ clash (rowAt (now (rows .entry)) i) (rowAt (now (rows .entry)) j) ⌝ }
+    ensures answer { λ r. ⌜ r ≡ clash (entryAt (now (rows .entry)) i) (entryAt (now (rows .entry)) j) ⌝ }
 {
     let a = number_at(rows, i);
     let b = number_at(rows, j);
@@ -31,7 +31,7 @@ fn clashes(rows: &[u32], i: usize, j: usize) -> bool
 // Does row i clash with one that stands behind it?
 fn clashes_behind(rows: &[u32], i: usize) -> bool
     requires { ⌜ i < length (now rows) / 9 ⌝ }
-    ensures answer { λ r. ⌜ r ≡ anyOf (clash (rowAt (now (rows .entry)) i)) (rowsFrom (now (rows .entry)) (i + 1) (length (now (rows .entry)) / 9 - (i + 1))) ⌝ }
+    ensures answer { λ r. ⌜ r ≡ anyOf (clash (entryAt (now (rows .entry)) i)) (entriesFrom (now (rows .entry)) (i + 1) (length (now (rows .entry)) / 9 - (i + 1))) ⌝ }
 {
     let n = rows.len() / 9;
     let mut j = i + 1;

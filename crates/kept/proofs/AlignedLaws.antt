@@ -14,10 +14,10 @@ use Rattle.graph.specs.Lists.{_∈_}
 use Rattle.graph.proofs.TestLaws.{true-or-false}
 use Rattle.graph.proofs.MemberLaws.{kept-of-member, member-of-kept}
 use Rattle.graph.proofs.PlaceLaws.{member-of-place, place-of-member}
-use Rattle.rows.specs.Arrow.{ticketAt}
-use Rattle.square.specs.Square.{ticketRow}
-use Rattle.square.specs.Slotted.{Slotted}
-use Rattle.square.proofs.SlotLaws.{ticketRow-of-entries, ticket-of-flat, length-ticketRow}
+use Rattle.orders.specs.Arrow.{ticketAt}
+use Rattle.paths.specs.Paths.{ticketRow}
+use Rattle.paths.specs.Slotted.{Slotted}
+use Rattle.paths.proofs.SlotLaws.{ticketRow-of-entries, ticket-of-flat, length-ticketRow}
 use Rattle.method.specs.declared.Row.{Row}
 use Rattle.method.specs.declared.Table.{Table}
 use Rattle.method.specs.Records.{committed, pastEnd, rowAt, partAt, ticketsOf}

@@ -1,2 +1,3 @@
 pub mod AlignedLaws
 pub mod OneListLaws
+pub mod PackedLaws

@@ -5,8 +5,8 @@ use Prim.Native.Nat.{ℕ, _+_, _*_, _/_, _%_, _<_}
 use native.Mathlib.Omega.{arith}
 use lib.ListN.{length, getD}
 use lib.Seq.{ext-getD}
-use Rattle.rows.specs.Arrow.{Tickets, ticketAt}
-use Rattle.square.proofs.SlotLaws.{ticket-of-flat}
+use Rattle.orders.specs.Arrow.{Tickets, ticketAt}
+use Rattle.paths.proofs.SlotLaws.{ticket-of-flat}
 use Rattle.method.specs.declared.Table.{Table}
 use Rattle.kept.specs.Aligned.{Aligned}
 

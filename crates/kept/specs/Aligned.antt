@@ -5,8 +5,8 @@ use mathlib.Core.List.{List}
 use Prim.Native.Nat.{ℕ, _+_, _*_, _<_, _≤_}
 use lib.Dec.{eqb}
 use lib.ListN.{length, getD, replicate}
-use Rattle.rows.specs.Arrow.{Tickets}
-use Rattle.square.specs.Square.{ticketRow}
+use Rattle.orders.specs.Arrow.{Tickets}
+use Rattle.paths.specs.Paths.{ticketRow}
 use Rattle.method.specs.declared.Row.{Row}
 use Rattle.method.specs.declared.Table.{Table}
 use Rattle.method.specs.Records.{committed, rowAt, partAt, ticketsOf}

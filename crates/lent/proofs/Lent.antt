@@ -1,10 +1,10 @@
--- The types of the lent calls, for crate `lending`.
+-- The types of the lent calls, for crate `thin`.
 use mathlib.Core.Path.{refl}
 use mir.Syntax.{w8}
 use denote.Builtin.{u32}
-use Rattle.lending.proofs.Data.{Data, uint, struct, enum}
-use Rattle.lending.proofs.Args.{Arg, value, slice}
-use Rattle.lending.proofs.Pair.{Pair, pair}
+use Rattle.thin.proofs.Data.{Data, uint, struct, enum}
+use Rattle.thin.proofs.Args.{Arg, value, slice}
+use Rattle.thin.proofs.Pair.{Pair, pair}
 use Rattle.table.proofs.Table as T
 use Rattle.table.proofs.Table.Laws as T′
 use Rattle.method.proofs.Answer as A

@@ -10,7 +10,7 @@ use borrow.Author.Tests.{eqb-true, eq-eqb, leb-true, le-leb, ltb-true, lt-ltb}
 use Rattle.graph.specs.Lists.{_∈_, anyOf, isNil}
 use Rattle.graph.proofs.TestLaws.{iff-not, iff-or, iff-and}
 use Rattle.graph.proofs.MemberLaws.{iff-any, iff-nil}
-use Rattle.rows.proofs.ArrowLaws.{arrowb→arrow, arrow→arrowb}
+use Rattle.orders.proofs.ArrowLaws.{arrowb→arrow, arrow→arrowb}
 use Rattle.sites.specs.Sites.{sitesOf, listed, outsideb}
 use Rattle.sites.proofs.SitesLaws.{member-of-listed, listed-of-member}
 use Rattle.method.specs.declared.State.{State}

@@ -9,8 +9,8 @@ use Rattle.graph.specs.Acyclic.{acyclic}
 use Rattle.graph.specs.Reached.{Reached}
 use Rattle.graph.proofs.MapLaws.{mapped-cycle-iff}
 use Rattle.graph.proofs.ReachedLaws.{reachedb→reached, reached→reachedb, reached-of-weaker}
-use Rattle.rows.specs.Arrow.{Arrow, arrowb}
-use Rattle.rows.proofs.ArrowLaws.{acyclic-iff-no-cycle}
+use Rattle.orders.specs.Arrow.{Arrow, arrowb}
+use Rattle.orders.proofs.ArrowLaws.{acyclic-iff-no-cycle}
 use Rattle.method.specs.declared.Row.{Row}
 use Rattle.method.specs.declared.Table.{Table}
 use Rattle.method.specs.Records.{ticketsOf, Goes, goesb}

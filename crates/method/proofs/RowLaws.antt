@@ -8,7 +8,7 @@ use native.Mathlib.Omega.{arith}
 use lib.ListN.{length, getD, set, replicate, length-set, length-map, List·getD-map}
 use lib.Seq.{getD-set-same, getD-set-other}
 use Rattle.graph.specs.Lists.{_∈_}
-use Rattle.rows.specs.Arrow.{ticketAt}
+use Rattle.orders.specs.Arrow.{ticketAt}
 use Rattle.sites.specs.Sites.{Rising}
 use Rattle.method.specs.declared.Ticket.{Ticket}
 use Rattle.method.specs.declared.Part.{Part}

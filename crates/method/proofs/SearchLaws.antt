@@ -10,7 +10,7 @@ use native.Mathlib.Numerals.{add-one}
 use lib.ListN.{length, getD, drop, drop-of-length-le, length-map}
 use lib.Seq.{drop-cons}
 use Rattle.graph.specs.Lists.{anyOf, keep}
-use Rattle.rows.specs.Arrow.{Tickets, ticketAt, anySite}
+use Rattle.orders.specs.Arrow.{Tickets, ticketAt, anySite}
 use Rattle.method.specs.Slots.{firstAt}
 
 module _ {A : Type 0} (f : A → Bool) (rows : List A) (d : A) (i : ℕ) where

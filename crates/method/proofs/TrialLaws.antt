@@ -5,10 +5,10 @@ use Rattle.graph.specs.Acyclic.{pointed, peel, acyclic}
 use Rattle.graph.specs.Order.{next, write as writes, greedy}
 use Rattle.graph.specs.Reached.{spread, rounds, reachedb}
 use Rattle.graph.specs.Check.{mayStand, allStand, orderb}
-use Rattle.rows.specs.Rows.{rowAt, rowsFrom, rowsOf}
-use Rattle.rows.specs.Good.{apartb, goodb}
-use Rattle.rows.specs.Order.{inOrderb, checkResult}
-use Rattle.rows.specs.Write.{orderWritten, writeResult}
+use Rattle.orders.specs.Entries.{entryAt, entriesFrom, entriesIn}
+use Rattle.orders.specs.Good.{apartb, goodb}
+use Rattle.orders.specs.Order.{inOrderb, checkResult}
+use Rattle.orders.specs.Write.{orderWritten, writeResult}
 use Rattle.sites.specs.Sites.{sitesOf}
 use Rattle.method.specs.Records.{ticketsOf}
 use Rattle.method.specs.Slots.{firstAt, slotOf, freeSlot, kept, activeRows}
@@ -18,5 +18,5 @@ use Rattle.method.specs.Effects.{padded, opened, based, newRow, reported
 use Rattle.method.specs.Trials.{Trial, ask, trials}
 
 pub trials-hold : map (λ (c : Trial). ask (c .question)) trials ≡ map (λ (c : Trial). c .outcome) trials
-unfolding pointed peel acyclic next writes greedy spread rounds reachedb mayStand allStand orderb rowAt rowsFrom rowsOf apartb goodb inOrderb checkResult orderWritten writeResult sitesOf ticketsOf firstAt slotOf freeSlot kept activeRows unprepared hasPred heldBack checks padded opened based newRow reported committedRow raised decided stays sweptRow sweptCount effect act step trials
+unfolding pointed peel acyclic next writes greedy spread rounds reachedb mayStand allStand orderb entryAt entriesFrom entriesIn apartb goodb inOrderb checkResult orderWritten writeResult sitesOf ticketsOf firstAt slotOf freeSlot kept activeRows unprepared hasPred heldBack checks padded opened based newRow reported committedRow raised decided stays sweptRow sweptCount effect act step trials
 trials-hold = refl

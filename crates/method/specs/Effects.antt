@@ -7,7 +7,7 @@ use lib.ListN.{length, getD, set, replicate}
 use Rattle.graph.specs.Lists.{keep}
 use Rattle.graph.specs.Acyclic.{acyclic}
 use Rattle.graph.specs.Reached.{reachedb}
-use Rattle.rows.specs.Arrow.{arrowb}
+use Rattle.orders.specs.Arrow.{arrowb}
 use Rattle.sites.specs.Sites.{sitesOf}
 use Rattle.method.specs.declared.Ticket.{Ticket}
 use Rattle.method.specs.declared.State.{State}

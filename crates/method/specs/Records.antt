@@ -3,7 +3,7 @@ use mathlib.Core.Bool.{Bool, true, false, not}
 use mathlib.Core.List.{List, [], map}
 use Prim.Native.Nat.{ℕ}
 use lib.ListN.{getD, set, replicate}
-use Rattle.rows.specs.Arrow.{Tickets, Arrow, arrowb}
+use Rattle.orders.specs.Arrow.{Tickets, Arrow, arrowb}
 use Rattle.method.specs.declared.Number.{Number}
 use Rattle.method.specs.declared.Ticket.{Ticket}
 use Rattle.method.specs.declared.Stage.{Stage}

@@ -4,8 +4,7 @@ use mathlib.Core.List.{List, [], _∷_, map}
 use Prim.Native.Nat.{ℕ, suc}
 use lib.Dec.{eqb}
 use Rattle.graph.specs.Lists.{keep}
-use Rattle.rows.specs.Rows
-use Rattle.rows.specs.Rows.{flatOf}
+use Rattle.orders.specs.Entries.{Entry, flatOf}
 use Rattle.method.specs.declared.Row.{Row}
 use Rattle.method.specs.declared.Table.{Table}
 use Rattle.method.specs.Records.{isFree, inUse, active, committed, rowAt, ticketsOf}
@@ -37,12 +36,12 @@ unfoldable pub activeRows : Table → List Row
 activeRows t = keep active (t .rows)
 
 -- a row as a row of a ticket table, and the kept ones as such a table: RULES, Orders
-unfoldable pub entryOf : Row → Rows.Row
+unfoldable pub entryOf : Row → Entry
 entryOf r = record { number = r .number .0; tickets = ticketsOf r }
 
-abbrev pub keptRows : Table → List Rows.Row
-keptRows t = map entryOf (kept t)
+abbrev pub keptEntries : Table → List Entry
+keptEntries t = map entryOf (kept t)
 
 -- the same, nine entries a row
 abbrev pub keptFlat : Table → List ℕ
-keptFlat t = flatOf (keptRows t)
+keptFlat t = flatOf (keptEntries t)

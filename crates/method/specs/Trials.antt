@@ -3,10 +3,10 @@
 use mathlib.Core.List.{List, [], _∷_, _++_}
 use Prim.Native.Nat.{ℕ, zero, suc}
 use lib.ListN.{replicate}
-use Rattle.rows.specs.Reply.{Reply}
-use Rattle.rows.specs.Reply.Reply.{refused, yes, no}
-use Rattle.rows.specs.Order.{checkResult}
-use Rattle.rows.specs.Write.{writeResult}
+use Rattle.orders.specs.Reply.{Reply}
+use Rattle.orders.specs.Reply.Reply.{refused, yes, no}
+use Rattle.orders.specs.Order.{checkResult}
+use Rattle.orders.specs.Write.{writeResult}
 use Rattle.method.specs.declared.Answer.{Answer}
 use Rattle.method.specs.Records.{number, closed}
 use Rattle.method.specs.Calls.{Call}

@@ -4,15 +4,15 @@ use mathlib.Core.List.{List, List·Memᴰ·head as here, List·Memᴰ·tail as t
 use Prim.Native.Nat.{ℕ, _≤_}
 use native.Mathlib.Omega.{arith}
 use Rattle.graph.specs.Lists.{_∈_}
-use Rattle.rows.specs.Rows.{rowsOf}
-use Rattle.rows.specs.Good.{GoodRows}
-use Rattle.rows.specs.Order.{InOrder}
+use Rattle.orders.specs.Entries.{entriesIn}
+use Rattle.orders.specs.Good.{GoodRows}
+use Rattle.orders.specs.Order.{InOrder}
 use mathlib.Core.Option.{Option, none, some}
 use Rattle.wire.specs.Message.{Message, opening, beginning, ticketing, preparing, aborting, deciding, forgetting, sweeping, proposing, ordering}
 use Rattle.wire.specs.Body.{messageOf}
 use Rattle.frames.specs.Stream.{Stream, ended, cutOff, framed}
 use Rattle.lines.specs.Line.{Line}
-use Rattle.method.specs.Slots.{keptRows, keptFlat}
+use Rattle.method.specs.Slots.{keptEntries, keptFlat}
 use Rattle.method.specs.Calls.Call.{openWith, begin, reportTicket, reportPrepared, abort, decide, forget, sweep}
 use Rattle.runs.specs.Run.{Run, Run.call, after}
 use Rattle.runs.specs.History.{history}
@@ -44,13 +44,13 @@ module _ (r : Run) where
   pub run-good : GoodRows (keptFlat (after r))
   run-good = kept-good (after r) (history r) (invariant-run r)
 
-  pub run-rows : rowsOf (keptFlat (after r)) ≡ keptRows (after r)
+  pub run-rows : entriesIn (keptFlat (after r)) ≡ keptEntries (after r)
   run-rows = rows-of-kept (after r) (history r) (invariant-run r)
 
-  pub run-ordered : (o : List ℕ) × InOrder (keptRows (after r)) o
+  pub run-ordered : (o : List ℕ) × InOrder (keptEntries (after r)) o
   run-ordered = kept-ordered (after r) (history r) (invariant-run r)
 
-  pub flat-ordered : (o : List ℕ) × InOrder (rowsOf (keptFlat (after r))) o
+  pub flat-ordered : (o : List ℕ) × InOrder (entriesIn (keptFlat (after r))) o
   flat-ordered = rw run-rows run-ordered
 
 pub never-in-lines : (s : Stream) (r : Run) (k : ℕ) → Line.refused k ∈ linesOf (after r) s → k ≤ 11

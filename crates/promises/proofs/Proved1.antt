@@ -8,9 +8,9 @@ use lib.ListN.{length, take, drop}
 use lib.Seq.{take-at}
 use borrow.Author.Tests.{lt-leb}
 use Rattle.endian.specs.Laid.{laid}
-use Rattle.rows.specs.Reply.{Reply}
-use Rattle.rows.specs.Write.{Written, Written.bad, Written.noRoom, Written.noOrder, Written.written}
-use Rattle.rows.proofs.WriteLaws.{write-result}
+use Rattle.orders.specs.Reply.{Reply}
+use Rattle.orders.specs.Write.{Written, Written.bad, Written.noRoom, Written.noOrder, Written.written}
+use Rattle.orders.proofs.WriteLaws.{write-result}
 use Rattle.sending.specs.declared.WriteAnswer.{WriteAnswer}
 use Rattle.wire.specs.Message.{Message, opening, beginning, ticketing, preparing, aborting, deciding, forgetting, sweeping, proposing, ordering}
 use Rattle.frames.specs.Frame.{Next, nothing, cut, bad, whole, frameOf, nextFrame, Means, Bad, Cut}

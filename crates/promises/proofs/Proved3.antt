@@ -5,25 +5,25 @@ use mathlib.Core.Logic.{_↔_, _≢_}
 use Prim.Native.Nat.{ℕ}
 use lib.Dec.{eqb}
 use borrow.Author.Tests.{eq-eqb}
-use Rattle.rows.specs.Rows.{rowsOf}
-use Rattle.rows.specs.Good.{GoodRows}
-use Rattle.rows.specs.Order.{InOrder}
-use Rattle.rows.specs.Reply.{Reply, checkReply, writeReply}
-use Rattle.rows.specs.Write.{Written, Written.bad, Written.noRoom, Written.noOrder}
-use Rattle.rows.specs.CCall.{GoodBytes, OrderBytes, callResult}
-use Rattle.rows.specs.declared.CheckAnswer.{CheckAnswer}
-use Rattle.rows.specs.declared.WriteAnswer.{WriteAnswer}
-use Rattle.rows.proofs.ReplyLaws.{checkReply-injective, writeReply-injective, checked-of-result}
-use Rattle.rows.proofs.WriteLaws.{write-result}
-use Rattle.rows.proofs.CCallLaws.{call-result}
+use Rattle.orders.specs.Entries.{entriesIn}
+use Rattle.orders.specs.Good.{GoodRows}
+use Rattle.orders.specs.Order.{InOrder}
+use Rattle.orders.specs.Reply.{Reply, checkReply, writeReply}
+use Rattle.orders.specs.Write.{Written, Written.bad, Written.noRoom, Written.noOrder}
+use Rattle.orders.specs.CCall.{GoodBytes, OrderBytes, callResult}
+use Rattle.orders.specs.declared.CheckAnswer.{CheckAnswer}
+use Rattle.orders.specs.declared.WriteAnswer.{WriteAnswer}
+use Rattle.orders.proofs.ReplyLaws.{checkReply-injective, writeReply-injective, checked-of-result}
+use Rattle.orders.proofs.WriteLaws.{write-result}
+use Rattle.orders.proofs.CCallLaws.{call-result}
 use Rattle.method.proofs.RecordLaws.{never}
 use Rattle.frames.specs.Stream.{streamOf}
 use Rattle.runs.specs.Run.{Run.start, after}
 use Rattle.runs.proofs.InvariantLaws.{history-apart, history-ordered}
 use Rattle.runs.proofs.ReportedLaws.{history-commits, history-reported}
 use Rattle.promises.specs.Demand3.{OrderCheck, CCall, OrderWriter, History, KeptRows, NeverInStream}
-use Rattle.rows.proofs.WriteIffLaws.{bad-written, no-room-written, no-order-written, wrote-written, written-of-order}
-use Rattle.rows.proofs.JudgedIffLaws.{bad-iff, yes-iff, no-iff}
+use Rattle.orders.proofs.WriteIffLaws.{bad-written, no-room-written, no-order-written, wrote-written, written-of-order}
+use Rattle.orders.proofs.JudgedIffLaws.{bad-iff, yes-iff, no-iff}
 use Rattle.replies.proofs.OrderedLaws.{body-low, desk-order, proposal-iff}
 use Rattle.promises.proofs.KeptLaws.{run-good, run-rows, run-ordered, flat-ordered, never-in-lines}
 
@@ -38,9 +38,9 @@ order-check flat o r g =
     let bn : Reply.refused 13 ≢ Reply.no = λ e. never (cc) in
     let yn : Reply.yes ≢ Reply.no = λ e. never (cc) in
     record {
-      bad = by-reply checkReply checkReply-injective r CheckAnswer.Bad (bad-iff (Reply.refused 13) Reply.yes Reply.no by bn yn (GoodRows flat) (InOrder (rowsOf flat) o) (checkReply r) j);
-      yes = by-reply checkReply checkReply-injective r CheckAnswer.Yes (yes-iff (Reply.refused 13) Reply.yes Reply.no by bn yn (GoodRows flat) (InOrder (rowsOf flat) o) (checkReply r) j);
-      no = by-reply checkReply checkReply-injective r CheckAnswer.No (no-iff (Reply.refused 13) Reply.yes Reply.no by bn yn (GoodRows flat) (InOrder (rowsOf flat) o) (checkReply r) j);
+      bad = by-reply checkReply checkReply-injective r CheckAnswer.Bad (bad-iff (Reply.refused 13) Reply.yes Reply.no by bn yn (GoodRows flat) (InOrder (entriesIn flat) o) (checkReply r) j);
+      yes = by-reply checkReply checkReply-injective r CheckAnswer.Yes (yes-iff (Reply.refused 13) Reply.yes Reply.no by bn yn (GoodRows flat) (InOrder (entriesIn flat) o) (checkReply r) j);
+      no = by-reply checkReply checkReply-injective r CheckAnswer.No (no-iff (Reply.refused 13) Reply.yes Reply.no by bn yn (GoodRows flat) (InOrder (entriesIn flat) o) (checkReply r) j);
     }
 
 differ : (a b : ℕ) → eqb a b ≡ false → a ≢ b

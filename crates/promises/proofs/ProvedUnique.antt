@@ -1,9 +1,9 @@
 -- Every public contract leaves one result. Assumes nothing.
 use mathlib.Core.Path.{_≡_, sym, _∙_}
 use Prim.Native.Nat.{ℕ}
-use Rattle.square.proofs.AnswerLaws.{cycle-answer-unique, reached-answer-unique}
+use Rattle.paths.proofs.AnswerLaws.{cycle-answer-unique, reached-answer-unique}
 use Rattle.kept.proofs.OneListLaws.{aligned-unique}
-use Rattle.rows.proofs.ReplyLaws.{writeReply-injective, check-answer-unique}
+use Rattle.orders.proofs.ReplyLaws.{writeReply-injective, check-answer-unique}
 use Rattle.table.specs.declared.Table.{Table}
 use Rattle.queries.specs.declared.Spoken.{Spoken}
 use Rattle.replies.specs.declared.Replied.{Replied}

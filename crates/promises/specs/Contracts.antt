@@ -8,12 +8,12 @@ use Prim.Native.Nat.{ℕ}
 use lib.ListN.{length, take}
 use Rattle.endian.specs.Laid.{laid, stored}
 use Rattle.decimal.specs.Written.{writtenCount}
-use Rattle.rows.specs.declared.CheckAnswer.{CheckAnswer}
-use Rattle.rows.specs.declared.WriteAnswer.{WriteAnswer}
-use Rattle.rows.specs.Reply.{checkReply, writeReply}
-use Rattle.rows.specs.Order.{checkResult}
-use Rattle.rows.specs.Write.{writeResult}
-use Rattle.rows.specs.CCall.{callResult}
+use Rattle.orders.specs.declared.CheckAnswer.{CheckAnswer}
+use Rattle.orders.specs.declared.WriteAnswer.{WriteAnswer}
+use Rattle.orders.specs.Reply.{checkReply, writeReply}
+use Rattle.orders.specs.Order.{checkResult}
+use Rattle.orders.specs.Write.{writeResult}
+use Rattle.orders.specs.CCall.{callResult}
 use Rattle.wire.specs.declared.reader.BodyAnswer.{BodyAnswer}
 use Rattle.frames.specs.declared.FrameAnswer.{FrameAnswer}
 use Rattle.wire.specs.declared.reader.ReadAnswer.{ReadAnswer}

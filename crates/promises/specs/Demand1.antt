@@ -9,8 +9,8 @@ use Prim.Native.Nat.{ℕ, _+_, _-_, _<_, _≤_}
 use lib.ListN.{length, take, drop}
 use Rattle.endian.specs.Places.{Below}
 use Rattle.graph.specs.Lists.{_∈_}
-use Rattle.rows.specs.declared.WriteAnswer.{WriteAnswer}
-use Rattle.rows.specs.Reply.{Reply, writeReply}
+use Rattle.orders.specs.declared.WriteAnswer.{WriteAnswer}
+use Rattle.orders.specs.Reply.{Reply, writeReply}
 use Rattle.wire.specs.declared.reader.BodyAnswer.{BodyAnswer}
 use Rattle.frames.specs.declared.FrameAnswer.{FrameAnswer}
 use Rattle.wire.specs.declared.reader.ReadAnswer.{ReadAnswer}

@@ -15,11 +15,11 @@ use Rattle.wire.specs.declared.reader.ReadAnswer.{ReadAnswer}
 use Rattle.wire.specs.Meaning.{NoBody, bodyRefusal, readRefusal}
 use Rattle.sending.specs.declared.WriteAnswer as messages
 use Rattle.sending.specs.Meaning.{writeRefusal}
-use Rattle.rows.specs.declared.CheckAnswer.{CheckAnswer}
-use Rattle.rows.specs.declared.WriteAnswer.{WriteAnswer}
-use Rattle.rows.specs.Good.{GoodRows}
-use Rattle.rows.specs.Reply.{Reply, checkReply, writeReply}
-use Rattle.rows.specs.Write.{Room}
+use Rattle.orders.specs.declared.CheckAnswer.{CheckAnswer}
+use Rattle.orders.specs.declared.WriteAnswer.{WriteAnswer}
+use Rattle.orders.specs.Good.{GoodRows}
+use Rattle.orders.specs.Reply.{Reply, checkReply, writeReply}
+use Rattle.orders.specs.Write.{Room}
 use Rattle.method.specs.Calls.{FirstHolds}
 use Rattle.promises.specs.Contracts.{BodyGives, FrameGives, ReadGives, MessageGives, CheckGives, WriteGives}
 use Rattle.promises.specs.Demand3.{HasOrder}

@@ -4,10 +4,10 @@ use mathlib.Core.Path.{_≡_}
 use mathlib.Core.Bool.{Bool}
 use mathlib.Core.List.{List}
 use Prim.Native.Nat.{ℕ}
-use Rattle.square.specs.Square.{TellsCycle, TellsReached}
+use Rattle.paths.specs.Paths.{TellsCycle, TellsReached}
 use Rattle.kept.specs.Aligned.{Aligned}
-use Rattle.rows.specs.declared.CheckAnswer.{CheckAnswer}
-use Rattle.rows.specs.declared.WriteAnswer.{WriteAnswer}
+use Rattle.orders.specs.declared.CheckAnswer.{CheckAnswer}
+use Rattle.orders.specs.declared.WriteAnswer.{WriteAnswer}
 use Rattle.sending.specs.declared.WriteAnswer as messages
 use Rattle.lines.specs.declared.Words.{Words}
 use Rattle.method.specs.declared.Answer.{Answer}
@@ -36,7 +36,7 @@ pub record Unique : Type 0 where
   pub reply : (t : Table) (body : List ℕ) (a b : Replied) → ReplyGives t body a → ReplyGives t body b → a ≡ b
   pub serve : (t : Table) (body out : List ℕ) (place : ℕ) (a b : Served) (k l : List ℕ) → ServeGives t body out place a k → ServeGives t body out place b l → (a ≡ b) × (k ≡ l)
   pub turn : (t : Table) (input : List ℕ) (last : Bool) (out : List ℕ) (a b : Turn) (k l : List ℕ) → TurnGives t input last out a k → TurnGives t input last out b l → (a ≡ b) × (k ≡ l)
-  -- contracts that say it in other ways: checker::check, square::has_cycle, square::reached and kept::aligned
+  -- contracts that say it in other ways: checker::check, paths::has_cycle, paths::reached and kept::aligned
   pub check : (flat o : List ℕ) (a b : CheckAnswer) → CheckGives flat o a → CheckGives flat o b → a ≡ b
   pub cycle : (tickets : List ℕ) (a b : Bool) → TellsCycle tickets a → TellsCycle tickets b → a ≡ b
   pub reached : (tickets : List ℕ) (marks a b : List Bool) → TellsReached tickets marks a → TellsReached tickets marks b → a ≡ b

@@ -13,13 +13,13 @@ use Rattle.graph.specs.Order.{greedy}
 use Rattle.lines.specs.declared.Words.{Words}
 use Rattle.lines.specs.Writing.{lineOf}
 use Rattle.lines.specs.Line.{Line, good, bad, order, refused}
-use Rattle.rows.specs.Rows.{numberOf, rowArrowb, rowsOf}
-use Rattle.rows.specs.Good.{goodb}
-use Rattle.rows.specs.Judged.{judged}
-use Rattle.rows.specs.Order.{inOrderb, checkResult}
-use Rattle.rows.specs.Reply.{Reply}
-use Rattle.rows.specs.Write.{orderWritten, writeResult}
-use Rattle.rows.proofs.RowsLaws.{length-rowsOf}
+use Rattle.orders.specs.Entries.{numberOf, entryArrowb, entriesIn}
+use Rattle.orders.specs.Good.{goodb}
+use Rattle.orders.specs.Judged.{judged}
+use Rattle.orders.specs.Order.{inOrderb, checkResult}
+use Rattle.orders.specs.Reply.{Reply}
+use Rattle.orders.specs.Write.{orderWritten, writeResult}
+use Rattle.orders.proofs.EntriesLaws.{length-entriesIn}
 use Rattle.method.specs.declared.Table.{Table}
 use Rattle.method.specs.Conditions.{isClosed}
 use Rattle.queries.specs.declared.Said.{Said}
@@ -30,7 +30,7 @@ use Rattle.queries.proofs.SaidLaws.{line-of-words}
 
 pub proposal-said : (flat ns : List ℕ) → replySaid (checkResult flat ns) ≡ saidOf (proposalLine flat ns)
 unfolding checkResult
-proposal-said flat ns = go (goodb flat) (inOrderb (rowsOf flat) ns)
+proposal-said flat ns = go (goodb flat) (inOrderb (entriesIn flat) ns)
   where
     go : (g o : Bool) → replySaid (judged (Reply.refused 13) Reply.yes Reply.no g o) ≡ saidOf (judged (refused 13) good bad g o)
     go false o = refl
@@ -39,15 +39,15 @@ proposal-said flat ns = go (goodb flat) (inOrderb (rowsOf flat) ns)
 
 -- 32 entries are room for the kept rows, so the writer never answers 14
 module _ (flat : List ℕ) (h : length flat ≤ 288) where
-  has-room : ltb (length noNumbers) (0 + length (rowsOf flat)) ≡ false
-  has-room = le-ltb (length noNumbers) (0 + length (rowsOf flat)) (omega (arith, length-rowsOf flat))
+  has-room : ltb (length noNumbers) (0 + length (entriesIn flat)) ≡ false
+  has-room = le-ltb (length noNumbers) (0 + length (entriesIn flat)) (omega (arith, length-entriesIn flat))
 
   pub order-said : (replySaid (writeResult flat 0 noNumbers .0) ≡ saidOf (orderLine flat)) × (writeResult flat 0 noNumbers .1 ≡ numbersFor (orderLine flat))
   unfolding writeResult orderWritten
-  order-said = rw has-room (go (goodb flat) (acyclic rowArrowb (rowsOf flat)))
+  order-said = rw has-room (go (goodb flat) (acyclic entryArrowb (entriesIn flat)))
     where
       o : List ℕ
-      o = greedy rowArrowb numberOf (rowsOf flat)
+      o = greedy entryArrowb numberOf (entriesIn flat)
 
       answer : Bool → Bool → Reply × List ℕ
       answer g a = cond g (cond a (Reply.wrote (length o), laid noNumbers 0 o) (Reply.refused 12, noNumbers)) (Reply.refused 13, noNumbers)

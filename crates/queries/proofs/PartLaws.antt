@@ -8,11 +8,11 @@ use lib.Seq.{take-at}
 use Rattle.endian.specs.Laid.{laid}
 use Rattle.method.specs.declared.Table.{Table}
 use Rattle.method.specs.Slots.{keptFlat}
-use Rattle.packing.specs.declared.Kept.{Kept}
-use Rattle.packing.specs.Packed.{packedOf, zeros}
-use Rattle.rows.specs.Order.{checkResult}
-use Rattle.rows.specs.Reply.{Reply}
-use Rattle.rows.specs.Write.{writeResult}
+use Rattle.kept.specs.declared.Kept.{Kept}
+use Rattle.kept.specs.Packed.{packedOf, zeros}
+use Rattle.orders.specs.Order.{checkResult}
+use Rattle.orders.specs.Reply.{Reply}
+use Rattle.orders.specs.Write.{writeResult}
 
 module _ (t : Table) (k : Kept) (e : k ≡ packedOf t) (w : length (keptFlat t) ≡ 9 * k .count) where
   rows-are : k .rows ≡ laid zeros 0 (keptFlat t)

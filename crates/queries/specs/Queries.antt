@@ -4,23 +4,23 @@ use mathlib.Core.List.{List}
 use Prim.Native.Nat.{ℕ}
 use Rattle.graph.specs.Acyclic.{acyclic}
 use Rattle.graph.specs.Order.{greedy}
-use Rattle.rows.specs.Rows.{numberOf, rowArrowb, rowsOf}
-use Rattle.rows.specs.Good.{goodb}
-use Rattle.rows.specs.Order.{inOrderb}
-use Rattle.rows.specs.Judged.{judged}
+use Rattle.orders.specs.Entries.{numberOf, entryArrowb, entriesIn}
+use Rattle.orders.specs.Good.{goodb}
+use Rattle.orders.specs.Order.{inOrderb}
+use Rattle.orders.specs.Judged.{judged}
 use Rattle.lines.specs.Line.{Line, good, bad, order, refused}
 use Rattle.method.specs.declared.Table.{Table}
 use Rattle.method.specs.Conditions.{isClosed}
 
 -- a proposed order of the kept rows, nine entries a row
 abbrev pub proposalLine : List ℕ → List ℕ → Line
-proposalLine flat ns = judged (refused 13) good bad (goodb flat) (inOrderb (rowsOf flat) ns)
+proposalLine flat ns = judged (refused 13) good bad (goodb flat) (inOrderb (entriesIn flat) ns)
 
 -- the order that the writer gives for them
 abbrev pub orderLine : List ℕ → Line
 orderLine flat =
     cond (goodb flat)
-    (cond (acyclic rowArrowb (rowsOf flat)) (order (greedy rowArrowb numberOf (rowsOf flat))) (refused 12))
+    (cond (acyclic entryArrowb (entriesIn flat)) (order (greedy entryArrowb numberOf (entriesIn flat))) (refused 12))
     (refused 13)
 
 -- before a good opening there are no kept rows to speak of

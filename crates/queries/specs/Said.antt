@@ -6,7 +6,7 @@ use Rattle.endian.specs.Laid.{laid}
 use Rattle.lines.specs.declared.Words.{Words}
 use Rattle.lines.specs.Line.{Line, ok, begin, commit, cycle, swept, good, bad, order, refused}
 use Rattle.lines.specs.Writing.{lineOf}
-use Rattle.rows.specs.Reply.{Reply}
+use Rattle.orders.specs.Reply.{Reply}
 use Rattle.queries.specs.declared.Said.{Said}
 use Rattle.queries.specs.declared.Spoken.{Spoken}
 

@@ -6,18 +6,18 @@ ghost use Rattle.lines.specs.Line.{refused};
 ghost use Rattle.lines.specs.Writing.{lineOf};
 ghost use Rattle.method.specs.Conditions.{isClosed};
 ghost use Rattle.method.specs.Slots.{keptFlat};
-ghost use Rattle.rows.specs.Reply.{checkReply, writeReply};
+ghost use Rattle.orders.specs.Reply.{checkReply, writeReply};
 ghost use Rattle.queries.specs.declared.Said as saids;
 ghost use Rattle.queries.specs.Queries.{proposalLine, orderLine, ifOpen};
 ghost use Rattle.queries.specs.Said.{spokenOf, replySaid};
-use kept::check_kept;
-use kept::write_kept;
+use asking::check_kept;
+use asking::write_kept;
 use lines::Words;
-use rows::CheckAnswer;
-use rows::WriteAnswer;
+use orders::CheckAnswer;
+use orders::WriteAnswer;
 use table::Table;
 
-mod kept;
+mod asking;
 
 // Words, or an order of so many numbers.
 pub enum Said {

@@ -13,14 +13,13 @@ use Rattle.graph.specs.Smallest.{SmallestFirst}
 use Rattle.graph.proofs.TestLaws.{true-or-false, true-not-false, false-of-not-true}
 use Rattle.graph.proofs.AcyclicLaws.{acyclic-iff}
 use Rattle.graph.proofs.PathLaws.{cycle-of-weaker}
-use Rattle.rows.specs.Rows
-use Rattle.rows.specs.Rows.{numberOf, RowArrow, rowArrowb, rowsOf}
-use Rattle.rows.specs.Good.{GoodRows}
-use Rattle.rows.specs.Order.{InOrder, inOrderb}
-use Rattle.rows.proofs.ArrowLaws.{arrowb→arrow}
-use Rattle.rows.proofs.GoodLaws.{good→goodb}
-use Rattle.rows.proofs.OrderLaws.{inOrderb→inOrder, inOrder→inOrderb, inOrder-of-greedy, order-exists-iff-no-cycle}
-use Rattle.rows.proofs.WriteLaws.{smallest-first-of-greedy}
+use Rattle.orders.specs.Entries.{Entry, numberOf, EntryArrow, entryArrowb, entriesIn}
+use Rattle.orders.specs.Good.{GoodRows}
+use Rattle.orders.specs.Order.{InOrder, inOrderb}
+use Rattle.orders.proofs.ArrowLaws.{arrowb→arrow}
+use Rattle.orders.proofs.GoodLaws.{good→goodb}
+use Rattle.orders.proofs.OrderLaws.{inOrderb→inOrder, inOrder→inOrderb, inOrder-of-greedy, order-exists-iff-no-cycle}
+use Rattle.orders.proofs.WriteLaws.{smallest-first-of-greedy}
 use Rattle.wire.specs.Message.{Message, opening, beginning, ticketing, preparing, aborting, deciding, forgetting, sweeping, proposing, ordering}
 use Rattle.wire.specs.Body.{messageOf}
 use Rattle.lines.specs.Line.{Line}
@@ -38,17 +37,17 @@ use Rattle.method.proofs.ListedLaws.{refusal-below-ten}
 use Rattle.replies.proofs.RefusalLaws.{refused-of-line}
 
 -- over a list of kept rows that is good and has an order
-module _ (t : Table) (g : GoodRows (keptFlat t)) (x : (o : List ℕ) × InOrder (rowsOf (keptFlat t)) o) where
-  abbrev rows : List Rows.Row
-  rows = rowsOf (keptFlat t)
+module _ (t : Table) (g : GoodRows (keptFlat t)) (x : (o : List ℕ) × InOrder (entriesIn (keptFlat t)) o) where
+  abbrev rows : List Entry
+  rows = entriesIn (keptFlat t)
 
-  no-cycle : ¬ Cycle RowArrow rows
+  no-cycle : ¬ Cycle EntryArrow rows
   no-cycle = order-exists-iff-no-cycle rows (g .apart .numbers) .0 x
 
-  passes : acyclic rowArrowb rows ≡ true
-  passes = acyclic-iff rowArrowb rows .1 (λ c. no-cycle (cycle-of-weaker (λ q r. arrowb→arrow (q .tickets) (r .tickets)) c))
+  passes : acyclic entryArrowb rows ≡ true
+  passes = acyclic-iff entryArrowb rows .1 (λ c. no-cycle (cycle-of-weaker (λ q r. arrowb→arrow (q .tickets) (r .tickets)) c))
 
-  order-line : orderLine (keptFlat t) ≡ Line.order (greedy rowArrowb numberOf rows)
+  order-line : orderLine (keptFlat t) ≡ Line.order (greedy entryArrowb numberOf rows)
   order-line = rw (good→goodb (keptFlat t) g, passes)
 
   proposal-line : (ns : List ℕ) (b : Bool) → inOrderb rows ns ≡ b → proposalLine (keptFlat t) ns ≡ cond b Line.good Line.bad
@@ -95,9 +94,9 @@ module _ (t : Table) (g : GoodRows (keptFlat t)) (x : (o : List ℕ) × InOrder 
     is-open : isClosed t ≡ false
     is-open = false-of-not-true (isClosed t) (λ e. nc (closed-iff t .0 e))
 
-    pub desk-order : (o : List ℕ) × (desk t ordering ≡ (t, Line.order o)) × InOrder rows o × SmallestFirst RowArrow numberOf rows o
+    pub desk-order : (o : List ℕ) × (desk t ordering ≡ (t, Line.order o)) × InOrder rows o × SmallestFirst EntryArrow numberOf rows o
     unfolding desk
-    desk-order = (greedy rowArrowb numberOf rows, rw (is-open, order-line), inOrder-of-greedy rows (g .apart .numbers) no-cycle, smallest-first-of-greedy rows)
+    desk-order = (greedy entryArrowb numberOf rows, rw (is-open, order-line), inOrder-of-greedy rows (g .apart .numbers) no-cycle, smallest-first-of-greedy rows)
 
     desk-proposal : (ns : List ℕ) (b : Bool) → inOrderb rows ns ≡ b → desk t (proposing ns) ≡ (t, cond b Line.good Line.bad)
     unfolding desk

@@ -9,10 +9,10 @@ use native.Mathlib.Omega.{arith}
 use Rattle.endian.specs.Places.{Below}
 use Rattle.graph.specs.Acyclic.{acyclic}
 use Rattle.graph.specs.Order.{greedy}
-use Rattle.rows.specs.Rows.{numberOf, rowArrowb, rowsOf}
-use Rattle.rows.specs.Good.{goodb}
-use Rattle.rows.specs.Order.{inOrderb}
-use Rattle.rows.specs.Judged.{judged}
+use Rattle.orders.specs.Entries.{numberOf, entryArrowb, entriesIn}
+use Rattle.orders.specs.Good.{goodb}
+use Rattle.orders.specs.Order.{inOrderb}
+use Rattle.orders.specs.Judged.{judged}
 use Rattle.wire.specs.Message.{Message, InRange, bodyOf, opening, beginning, ticketing, preparing, aborting, deciding, forgetting, sweeping, proposing, ordering}
 use Rattle.wire.specs.Body.{messageOf}
 use Rattle.wire.specs.Meaning.{NoBody}
@@ -60,7 +60,7 @@ module _ (t : Table) (k : ℕ) where
       go false e = (h e, refl)
 
   proposal-refuses : (flat ns : List ℕ) → proposalLine flat ns ≡ Line.refused k → Refusal k
-  proposal-refuses flat ns = go (goodb flat) (inOrderb (rowsOf flat) ns)
+  proposal-refuses flat ns = go (goodb flat) (inOrderb (entriesIn flat) ns)
     where
       go : (g o : Bool) → judged (Line.refused 13) Line.good Line.bad g o ≡ Line.refused k → Refusal k
       go false o e = inr (inr (let f : 13 ≡ k = cc in sym f))
@@ -68,9 +68,9 @@ module _ (t : Table) (k : ℕ) where
       go true false e = never (cc)
 
   order-refuses : (flat : List ℕ) → orderLine flat ≡ Line.refused k → Refusal k
-  order-refuses flat = go (goodb flat) (acyclic rowArrowb (rowsOf flat))
+  order-refuses flat = go (goodb flat) (acyclic entryArrowb (entriesIn flat))
     where
-      go : (g a : Bool) → cond g (cond a (Line.order (greedy rowArrowb numberOf (rowsOf flat))) (Line.refused 12)) (Line.refused 13) ≡ Line.refused k → Refusal k
+      go : (g a : Bool) → cond g (cond a (Line.order (greedy entryArrowb numberOf (entriesIn flat))) (Line.refused 12)) (Line.refused 13) ≡ Line.refused k → Refusal k
       go false a e = inr (inr (let f : 13 ≡ k = cc in sym f))
       go true false e = inr (inl (let f : 12 ≡ k = cc in sym f))
       go true true e = never (cc)

@@ -6,9 +6,9 @@ use Rattle.graph.specs.Acyclic.{pointed, peel, acyclic}
 use Rattle.graph.specs.Order.{next, write as writes, greedy}
 use Rattle.graph.specs.Reached.{spread, rounds, reachedb}
 use Rattle.graph.specs.Check.{mayStand, allStand, orderb}
-use Rattle.rows.specs.Rows.{rowAt, rowsFrom, rowsOf, flatOf}
-use Rattle.rows.specs.Good.{apartb, goodb}
-use Rattle.rows.specs.Order.{inOrderb}
+use Rattle.orders.specs.Entries.{entryAt, entriesFrom, entriesIn, flatOf}
+use Rattle.orders.specs.Good.{apartb, goodb}
+use Rattle.orders.specs.Order.{inOrderb}
 use Rattle.sites.specs.Sites.{sitesOf}
 use Rattle.kinds.specs.Kinds.{entriesOf}
 use Rattle.wire.specs.Body.{messageAt}
@@ -21,5 +21,5 @@ use Rattle.replies.specs.Desk.{desk}
 use Rattle.replies.specs.Trials.{Trial, linesOf, trials}
 
 pub trials-hold : map (λ (c : Trial). linesOf closed (c .bodies)) trials ≡ map (λ (c : Trial). c .lines) trials
-unfolding words wordBytes pointed peel acyclic next writes greedy spread rounds reachedb mayStand allStand orderb rowAt rowsFrom rowsOf flatOf apartb goodb inOrderb sitesOf entriesOf messageAt ticketsOf firstAt slotOf freeSlot kept activeRows entryOf unprepared hasPred heldBack checks padded opened based newRow reported committedRow raised decided stays sweptRow sweptCount effect act step desk trials
+unfolding words wordBytes pointed peel acyclic next writes greedy spread rounds reachedb mayStand allStand orderb entryAt entriesFrom entriesIn flatOf apartb goodb inOrderb sitesOf entriesOf messageAt ticketsOf firstAt slotOf freeSlot kept activeRows entryOf unprepared hasPred heldBack checks padded opened based newRow reported committedRow raised decided stays sweptRow sweptCount effect act step desk trials
 trials-hold = refl

@@ -6,8 +6,8 @@ use mathlib.Core.List.{List}
 use Prim.Native.Nat.{ℕ, _+_, _≤_}
 use native.Mathlib.Omega.{arith}
 use Rattle.graph.specs.Lists.{_∈_}
-use Rattle.rows.specs.Arrow.{Tickets, ticketAt}
-use Rattle.rows.specs.Rows
+use Rattle.orders.specs.Arrow.{Tickets, ticketAt}
+use Rattle.orders.specs.Entries.{Entry}
 use Rattle.method.specs.declared.Row.{Row}
 use Rattle.method.specs.Records.{ticketsOf}
 use Rattle.method.specs.Slots.{entryOf}
@@ -22,7 +22,7 @@ pub record Fresh (high : ℕ → ℕ) (last : ℕ) (r : Row) : Type 0 where
   pub bases : (s : ℕ) → Has r s → base r s ≡ high s
 
 module _ {row row′ : ℕ → Row} {i : ℕ} {r : Row} (ch : Changed row i r row′) (free : ¬ IsCommitted (row i))
-    (high : ℕ → ℕ) (last : ℕ) (f : Fresh high last r) (es : List Rows.Row) (v : Sound row high last es) where
+    (high : ℕ → ℕ) (last : ℕ) (f : Fresh high last r) (es : List Entry) (v : Sound row high last es) where
   above : (ts : Tickets) → ((s : ℕ) → ticketAt ts s ≤ high s) → Above r ts
   unfolding Above
   above ts a s h = omega (arith, a s, f .bases s h)
@@ -67,14 +67,14 @@ module _ {row row′ : ℕ → Row} {i : ℕ} {r : Row} (ch : Changed row i r ro
     later = λ c a h. above (ticketsOf (row j)) (v .rows j .below c);
   }
 
-  past : (e : Rows.Row) → EntrySound row high last e → Past e r
+  past : (e : Entry) → EntrySound row high last e → Past e r
   past e o = record {
     unpointed = λ c. absurd (not-committed (f .is) c);
     other = λ a. omega (arith, f .number, o .counted);
     above = λ a. above (e .tickets) (o .below);
   }
 
-  place : (e : Rows.Row) → EntrySound row high last e → Still row e ⊎ Gone row e → Still row′ e ⊎ Gone row′ e
+  place : (e : Entry) → EntrySound row high last e → Still row e ⊎ Gone row e → Still row′ e ⊎ Gone row′ e
   place e o (inl k) = inl (keeps ch free k)
   place e o (inr g) = inr (every ch (Past e) (past e o) (λ j n. g j))
 

@@ -6,7 +6,7 @@ use Prim.Native.Nat.{ℕ, _+_, _<_, _≤_}
 use native.Mathlib.Omega.{arith}
 use native.Mathlib.Decide.{ℕ-discrete, decLt}
 use lib.ListN.{length, getD-replicate, List·getD-eq-default}
-use Rattle.rows.specs.Rows
+use Rattle.orders.specs.Entries.{Entry}
 use Rattle.method.specs.declared.Number.{Number}
 use Rattle.method.specs.declared.State.{State}
 use Rattle.method.specs.declared.Row.{Row}
@@ -70,7 +70,7 @@ module _ (t u : Table) (i : ℕ) (q : Row) (ch : Changed (rowAt t) i q (rowAt u)
   ]
 
 -- one step
-module _ (t : Table) (es : List Rows.Row) (v : Invariant t es) (c : Call) where
+module _ (t : Table) (es : List Entry) (v : Invariant t es) (c : Call) where
   abbrev a : Answer
   a = step t c .answer
 

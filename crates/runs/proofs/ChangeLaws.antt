@@ -2,7 +2,7 @@
 use mathlib.Core.Path.{_≡_, refl, sym, ap, subst, _∙_}
 use mathlib.Core.Logic.{_≢_, _⊎_, inl, inr}
 use Prim.Native.Nat.{ℕ}
-use Rattle.rows.specs.Rows
+use Rattle.orders.specs.Entries.{Entry}
 use Rattle.method.specs.declared.State.{State}
 use Rattle.method.specs.declared.Row.{Row}
 use Rattle.method.specs.Slots.{entryOf}
@@ -42,7 +42,7 @@ module _ {row row′ : ℕ → Row} {i : ℕ} {r : Row} (ch : Changed row i r ro
   there P p = elim (ch i) [ inl e ↦ subst P (sym (e .1)) p | inr e ↦ absurd (e .0 refl) ]
 
   -- what stood in the table still does, if the slot that changed held no committed one
-  pub keeps : ¬ IsCommitted (row i) → {e : Rows.Row} → Still row e → Still row′ e
+  pub keeps : ¬ IsCommitted (row i) → {e : Entry} → Still row e → Still row′ e
   keeps n k = elim (ch (k .0)) [
     | inl g ↦ absurd (n (subst (λ (j : ℕ). IsCommitted (row j)) (g .0) (k .1)))
     | inr g ↦ (k .0, subst IsCommitted (sym (g .1)) (k .1), ap entryOf (g .1) ∙ k .2)

@@ -7,10 +7,9 @@ use Prim.Native.Nat.{ℕ, _≤_}
 use native.Mathlib.Omega.{arith}
 use Rattle.graph.specs.Lists.{_∈_}
 use Rattle.graph.specs.Path.{Cycle}
-use Rattle.rows.specs.Arrow.{Tickets, ticketAt, Arrow}
-use Rattle.rows.specs.Rows
-use Rattle.rows.specs.Rows.{RowArrow}
-use Rattle.rows.proofs.GoodLaws.{apart-of-cons}
+use Rattle.orders.specs.Arrow.{Tickets, ticketAt, Arrow}
+use Rattle.orders.specs.Entries.{Entry, EntryArrow}
+use Rattle.orders.proofs.GoodLaws.{apart-of-cons}
 use Rattle.method.specs.declared.Stage.{Stage}
 use Rattle.method.specs.declared.Row.{Row}
 use Rattle.method.specs.Slots.{entryOf}
@@ -32,16 +31,16 @@ pub record Sealed (last : ℕ) (q r : Row) : Type 0 where
   pub mark : r .last .0 ≡ last
 
 module _ {row row′ : ℕ → Row} {i : ℕ} {r : Row} (ch : Changed row i r row′) (last : ℕ) (d : Sealed last (row i) r)
-    (ks : List Rows.Row) (kk : Keeps row ks) (fine : ¬ Cycle RowArrow (entryOf (row i) ∷ ks)) (new : (j : ℕ) → IsCommitted (row j) → Differs (row i) (row j))
+    (ks : List Entry) (kk : Keeps row ks) (fine : ¬ Cycle EntryArrow (entryOf (row i) ∷ ks)) (new : (j : ℕ) → IsCommitted (row j) → Differs (row i) (row j))
     (high high′ : ℕ → ℕ) (up : (s : ℕ) → high s ≤ high′ s) (own : (s : ℕ) → tick (row i) s ≤ high′ s)
-    (es : List Rows.Row) (v : Sound row high last es) where
+    (es : List Entry) (v : Sound row high last es) where
   num-same : num r ≡ num (row i)
   unfolding entryOf
-  num-same = ap (λ (y : Rows.Row). y .number) (d .same)
+  num-same = ap (λ (y : Entry). y .number) (d .same)
 
   tickets-same : ticketsOf r ≡ ticketsOf (row i)
   unfolding entryOf
-  tickets-same = ap (λ (y : Rows.Row). y .tickets) (d .same)
+  tickets-same = ap (λ (y : Entry). y .tickets) (d .same)
 
   tick-same : (s : ℕ) → tick r s ≡ tick (row i) s
   tick-same s = ap (λ (ts : Tickets). ticketAt ts s) tickets-same
@@ -89,14 +88,14 @@ module _ {row row′ : ℕ → Row} {i : ℕ} {r : Row} (ch : Changed row i r ro
     later = λ c a. absurd (not-committed a (d .is));
   }
 
-  past : (e : Rows.Row) → Past e (row i) → Past e r
+  past : (e : Entry) → Past e (row i) → Past e r
   past e p = record {
     unpointed = λ c. subst (λ (y : Tickets). ¬ Arrow y (e .tickets)) (sym tickets-same) (unpointed v i (d .was) e p);
     other = λ a. absurd (not-committed a (d .is));
     above = λ a. absurd (not-committed a (d .is));
   }
 
-  place : (e : Rows.Row) → Still row e ⊎ Gone row e → Still row′ e ⊎ Gone row′ e
+  place : (e : Entry) → Still row e ⊎ Gone row e → Still row′ e ⊎ Gone row′ e
   place e (inl k) = inl (keeps ch (not-committed (d .was)) k)
   place e (inr g) = inr (every ch (Past e) (past e (g i)) (λ j n. g j))
 
@@ -108,7 +107,7 @@ module _ {row row′ : ℕ → Row} {i : ℕ} {r : Row} (ch : Changed row i r ro
     place = inl (i, there ch IsCommitted (d .is), there ch (λ (x : Row). entryOf x ≡ entryOf (row i)) (d .same));
   }
 
-  entries : (e : Rows.Row) → e ∈ entryOf (row i) ∷ es → EntrySound row′ high′ last e
+  entries : (e : Entry) → e ∈ entryOf (row i) ∷ es → EntrySound row′ high′ last e
   entries e m = elim (List·Memᴰ·cases-cons m) [
     | inl q ↦ subst (EntrySound row′ high′ last) (sym q) newest
     | inr n ↦ let o = v .entries e n in record { counted = o .counted; below = λ s. omega (arith, o .below s, up s); place = place e (o .place) }

@@ -8,8 +8,8 @@ use native.Mathlib.Decide.{decLe}
 use native.Mathlib.Nat.{not-suc-le-zero, le-of-suc-le-suc, add-zero}
 use lib.ListN.{length, getD}
 use Rattle.graph.specs.Lists.{_∈_}
-use Rattle.rows.specs.Arrow.{ticketAt}
-use Rattle.rows.specs.Rows
+use Rattle.orders.specs.Arrow.{ticketAt}
+use Rattle.orders.specs.Entries.{Entry}
 use Rattle.method.specs.declared.Ticket.{Ticket}
 use Rattle.method.specs.declared.Row.{Row}
 use Rattle.method.specs.declared.Table.{Table}
@@ -78,10 +78,10 @@ module _ (r : Run) (c : Call) (v : Counts r) where
       up (inl (m, e)) = omega arith
       up (inr (m, e)) = omega arith
 
-      old : k ≡ highAt t s → (k ≡ getD floors s 0) ⊎ ((e : Rows.Row) × (e ∈ entryOf q ∷ history r) × (ticketAt (e .tickets) s ≡ k))
+      old : k ≡ highAt t s → (k ≡ getD floors s 0) ⊎ ((e : Entry) × (e ∈ entryOf q ∷ history r) × (ticketAt (e .tickets) s ≡ k))
       old p = elim (g .one) [ inl z ↦ inl (p ∙ z) | inr z ↦ inr (z .0, behind (z .1), z .2 ∙ sym p) ]
 
-      one : (Has q s × (k ≡ max (highAt t s) (tick q s))) ⊎ ((¬ Has q s) × (k ≡ highAt t s)) → (k ≡ getD floors s 0) ⊎ ((e : Rows.Row) × (e ∈ entryOf q ∷ history r) × (ticketAt (e .tickets) s ≡ k))
+      one : (Has q s × (k ≡ max (highAt t s) (tick q s))) ⊎ ((¬ Has q s) × (k ≡ highAt t s)) → (k ≡ getD floors s 0) ⊎ ((e : Entry) × (e ∈ entryOf q ∷ history r) × (ticketAt (e .tickets) s ≡ k))
       one (inr (m, e)) = old e
       one (inl (m, e)) = elim (decLe (tick q s) (highAt t s)) [
         | yes l ↦ old (omega arith)

@@ -14,9 +14,8 @@ use Rattle.graph.specs.Path.{Cycle}
 use Rattle.graph.proofs.MemberLaws.{member-or-not}
 use Rattle.graph.proofs.TestLaws.{true-or-false, true-not-false}
 use Rattle.graph.proofs.MapLaws.{mapped-cycle-iff}
-use Rattle.rows.specs.Arrow.{ticketAt}
-use Rattle.rows.specs.Rows
-use Rattle.rows.specs.Rows.{RowArrow}
+use Rattle.orders.specs.Arrow.{ticketAt}
+use Rattle.orders.specs.Entries.{Entry, EntryArrow}
 use Rattle.sites.specs.Sites.{sitesOf}
 use Rattle.sites.proofs.SitesLaws.{rising-sites, lt-of-member}
 use Rattle.method.specs.declared.Ticket.{Ticket}
@@ -42,11 +41,11 @@ use Rattle.runs.proofs.KnownLaws.{found, changed, keeps-kept}
 use Rattle.runs.proofs.DropLaws.{invariant-freed}
 
 -- no cycle of the rows is no cycle of their entries
-entries-acyclic : (rs : List Row) → ¬ Cycle Goes rs → ¬ Cycle RowArrow (map entryOf rs)
+entries-acyclic : (rs : List Row) → ¬ Cycle Goes rs → ¬ Cycle EntryArrow (map entryOf rs)
 unfolding entryOf
-entries-acyclic rs n c = n (mapped-cycle-iff entryOf rs RowArrow .1 c)
+entries-acyclic rs n c = n (mapped-cycle-iff entryOf rs EntryArrow .1 c)
 
-module _ (t : Table) (es : List Rows.Row) (v : Invariant t es) (n : ℕ) (nc : ¬ Closed t) (nu : ¬ Unknown t n) (nr : ¬ NotReady (rowOfNumber t n)) where
+module _ (t : Table) (es : List Entry) (v : Invariant t es) (n : ℕ) (nc : ¬ Closed t) (nu : ¬ Unknown t n) (nr : ¬ NotReady (rowOfNumber t n)) where
   abbrev q : Row
   q = rowOfNumber t n
 
@@ -119,7 +118,7 @@ module _ (t : Table) (es : List Rows.Row) (v : Invariant t es) (n : ℕ) (nc : �
     sound = sound-committed (changed t at (committedRow t q) slot) (t .last .0) sealed (map entryOf (kept t)) (keeps-kept t)
         (entries-acyclic (q ∷ kept t) (fits .acyclic))
         (λ j c. fits .apart (rowAt t j) (kept-of-place committed (t .rows) j pastEnd refl (committed-iff (rowAt t j .state) .1 c))) (highAt t) high′ up own es (v .sound);
-    orderly = orderly-changed (changed t at (committedRow t q) slot) (λ s. inl (ap (λ (y : Rows.Row). ticketAt (y .tickets) s) (sealed .same))) (v .orderly);
+    orderly = orderly-changed (changed t at (committedRow t q) slot) (λ s. inl (ap (λ (y : Entry). ticketAt (y .tickets) s) (sealed .same))) (v .orderly);
     shut = λ c. absurd (nc c);
   }
 

@@ -4,7 +4,7 @@ use mathlib.Core.List.{List}
 use mathlib.Core.Logic.{_≢_, _⊎_, inl, inr}
 use Prim.Native.Nat.{ℕ, _<_}
 use lib.ListN.{length}
-use Rattle.rows.specs.Rows
+use Rattle.orders.specs.Entries.{Entry}
 use Rattle.method.specs.declared.State.{State}
 use Rattle.method.specs.declared.Row.{Row}
 use Rattle.method.specs.declared.Table.{Table}
@@ -22,7 +22,7 @@ use Rattle.runs.proofs.ShapeLaws.{shape-set}
 use Rattle.runs.proofs.KnownLaws.{found, changed, blank-free, no-site-free, later-of-free, unpointed-of-free}
 
 -- a committed row that no active one holds back is past, for each row without an arrow to it
-pub past-of-loose : (row : ℕ → Row) (high : ℕ → ℕ) (last : ℕ) (es : List Rows.Row) → Sound row high last es → (i : ℕ) → IsCommitted (row i)
+pub past-of-loose : (row : ℕ → Row) (high : ℕ → ℕ) (last : ℕ) (es : List Entry) → Sound row high last es → (i : ℕ) → IsCommitted (row i)
     → ((j : ℕ) → IsActive (row j) → row i .last .0 < num (row j)) → (j : ℕ) → (IsCommitted (row j) → ¬ Goes (row j) (row i)) → Past (entryOf (row i)) (row j)
 unfolding entryOf
 past-of-loose row high last es v i c late j u = record {
@@ -35,7 +35,7 @@ past-of-loose row high last es v i c late j u = record {
     two a e = not-committed a (subst (λ (k : ℕ). IsCommitted (row k)) (sym e) c)
 
 -- one slot freed
-pub invariant-freed : (t : Table) (es : List Rows.Row) (i : ℕ) → Invariant t es → ¬ Closed t → i < length (t .rows)
+pub invariant-freed : (t : Table) (es : List Entry) (i : ℕ) → Invariant t es → ¬ Closed t → i < length (t .rows)
     → (IsCommitted (rowAt t i) → (j : ℕ) → j ≢ i → Past (entryOf (rowAt t i)) (rowAt t j)) → Invariant (withRow t i freeRow) es
 invariant-freed t es i v nc h past = record {
   shape = shape-set t (withRow t i freeRow) i freeRow (v .shape) h refl refl (v .shape .highs) refl (λ f. refl) (λ s m. absurd (no-site-free s m));
@@ -57,10 +57,10 @@ invariant-freed t es i v nc h past = record {
       | inr e ↦ inl (e .1)
     ]
 
-pub invariant-abort : (t : Table) (es : List Rows.Row) (n : ℕ) → Invariant t es → ¬ Closed t → ¬ Unknown t n → ¬ ¬ IsActive (rowOfNumber t n) → Invariant (freed t n) es
+pub invariant-abort : (t : Table) (es : List Entry) (n : ℕ) → Invariant t es → ¬ Closed t → ¬ Unknown t n → ¬ ¬ IsActive (rowOfNumber t n) → Invariant (freed t n) es
 invariant-abort t es n v nc nu na = invariant-freed t es (slotOf t n) v nc (found t n nu .slot) (λ c. absurd (na (λ a. not-committed a c)))
 
-pub invariant-forget : (t : Table) (es : List Rows.Row) (n : ℕ) → Invariant t es → ¬ Closed t → ¬ Unknown t n → ¬ MayNotForget t (rowOfNumber t n) → Invariant (freed t n) es
+pub invariant-forget : (t : Table) (es : List Entry) (n : ℕ) → Invariant t es → ¬ Closed t → ¬ Unknown t n → ¬ MayNotForget t (rowOfNumber t n) → Invariant (freed t n) es
 invariant-forget t es n v nc nu nf = invariant-freed t es (slotOf t n) v nc (found t n nu .slot)
     (λ c j d. past-of-loose (rowAt t) (highAt t) (t .last .0) es (v .sound) (slotOf t n) c
     (later-of-free t (rowOfNumber t n) (λ h. nf (inr h))) j (unpointed-of-free t (rowOfNumber t n) (λ h. nf (inl h)) j))

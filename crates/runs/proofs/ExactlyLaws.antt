@@ -15,8 +15,8 @@ use Rattle.graph.proofs.MemberLaws.{keep-of-true, keep-of-false}
 use Rattle.graph.proofs.AcyclicLaws.{cycle-of-not-acyclic}
 use Rattle.graph.proofs.PathLaws.{cycle-of-weaker}
 use Rattle.graph.proofs.MapLaws.{mapped-cycle-iff}
-use Rattle.rows.specs.Arrow.{Arrow, arrowb}
-use Rattle.rows.proofs.ArrowLaws.{arrowb→arrow}
+use Rattle.orders.specs.Arrow.{Arrow, arrowb}
+use Rattle.orders.proofs.ArrowLaws.{arrowb→arrow}
 use Rattle.method.specs.declared.State.{State}
 use Rattle.method.specs.declared.Row.{Row}
 use Rattle.method.specs.declared.Table.{Table}

@@ -20,9 +20,8 @@ use Rattle.graph.proofs.PathLaws.{start-of-path, last-of-path, cycle-of-larger,
 use Rattle.graph.proofs.AcyclicLaws.{cycle-of-all-pointed}
 use Rattle.graph.proofs.MapLaws.{mapped-cycle-iff}
 use Rattle.graph.proofs.ReachedLaws.{reached-of-next}
-use Rattle.rows.specs.Rows
-use Rattle.rows.specs.Rows.{RowArrow}
-use Rattle.rows.proofs.OrderLaws.{order-exists-iff-no-cycle}
+use Rattle.orders.specs.Entries.{Entry, EntryArrow}
+use Rattle.orders.proofs.OrderLaws.{order-exists-iff-no-cycle}
 use Rattle.method.specs.declared.State.{State}
 use Rattle.method.specs.declared.Row.{Row}
 use Rattle.method.specs.declared.Table.{Table}
@@ -62,14 +61,14 @@ free-set (r ∷ rs) (suc i) h f = go (true-or-false (isFree (r .state))) (free-s
     go (inl e) k = rw (keep-of-true (λ (q : Row). isFree (q .state)) r (set rs i freeRow) e, keep-of-true (λ (q : Row). isFree (q .state)) r rs e) (omega arith)
     go (inr e) k = rw (keep-of-false (λ (q : Row). isFree (q .state)) r (set rs i freeRow) e, keep-of-false (λ (q : Row). isFree (q .state)) r rs e) k
 
-module _ (t : Table) (es : List Rows.Row) (v : Invariant t es) (nc : ¬ Closed t) where
+module _ (t : Table) (es : List Entry) (v : Invariant t es) (nc : ¬ Closed t) where
   -- the rows that go
   abbrev going : List Row
   going = keep (λ r. not (stays t r)) (kept t)
 
   kept-acyclic : ¬ Cycle Goes (kept t)
   unfolding entryOf
-  kept-acyclic c = order-exists-iff-no-cycle (map entryOf (kept t)) (kept-apart t es v .numbers) .0 (kept-ordered t es v) (mapped-cycle-iff entryOf (kept t) RowArrow .0 c)
+  kept-acyclic c = order-exists-iff-no-cycle (map entryOf (kept t)) (kept-apart t es v .numbers) .0 (kept-ordered t es v) (mapped-cycle-iff entryOf (kept t) EntryArrow .0 c)
 
   -- a slot that goes, with nothing that would keep it from being forgotten
   pub record Loose (i : ℕ) : Type 0 where
@@ -229,7 +228,7 @@ module _ (t : Table) (es : List Rows.Row) (v : Invariant t es) (nc : ¬ Closed t
     fewer = omega (arith, sweep-counts t, sweep-counts u, free-set (t .rows) i slot used, ap (λ (w : Table). freeSlots (w .rows)) same-sweep)
 
 -- nothing goes: the sweep leaves the table as it is
-swept-none : (t : Table) (es : List Rows.Row) → Invariant t es → sweptCount t ≡ 0 → t ≡ sweptTable t
+swept-none : (t : Table) (es : List Entry) → Invariant t es → sweptCount t ≡ 0 → t ≡ sweptTable t
 unfolding sweptCount
 swept-none t es v e = ap (withRows t) (ext-getD pastEnd (t .rows) (map (sweptRow t) (t .rows)) (sym (length-map (t .rows) (sweptRow t))) (λ j h. sym (same j)))
   where
@@ -250,7 +249,7 @@ swept-none t es v e = ap (withRows t) (ext-getD pastEnd (t .rows) (map (sweptRow
     ]
 
 -- as many forgets as the sweep counts
-forget-all-from : (k : ℕ) (t : Table) (es : List Rows.Row) → Invariant t es → ¬ Closed t → sweptCount t ≡ k → (ns : List ℕ) × ForgetAll t ns (sweptTable t)
+forget-all-from : (k : ℕ) (t : Table) (es : List Entry) → Invariant t es → ¬ Closed t → sweptCount t ≡ k → (ns : List ℕ) × ForgetAll t ns (sweptTable t)
 unfolding sweptCount
 forget-all-from zero t es v nc e = ([], swept-none t es v e)
 forget-all-from (suc k) t es v nc e = go (λ u w nu f. forget-all-from k u es w nu f) (one-of (going t es v nc) e)
@@ -272,5 +271,5 @@ forget-all-from (suc k) t es v nc e = go (λ u w nu f. forget-all-from k u es w 
           ),
         )
 
-pub forget-all : (t : Table) (es : List Rows.Row) → Invariant t es → ¬ Closed t → (ns : List ℕ) × ForgetAll t ns (sweptTable t)
+pub forget-all : (t : Table) (es : List Entry) → Invariant t es → ¬ Closed t → (ns : List ℕ) × ForgetAll t ns (sweptTable t)
 forget-all t es v nc = forget-all-from (sweptCount t) t es v nc refl

@@ -5,7 +5,7 @@ use mathlib.Core.Logic.{_≢_, _⊎_, inl, inr}
 use mathlib.Core.List.{List}
 use Prim.Native.Nat.{ℕ}
 use native.Mathlib.Omega.{arith}
-use Rattle.rows.specs.Rows
+use Rattle.orders.specs.Entries.{Entry}
 use Rattle.method.specs.declared.Row.{Row}
 use Rattle.method.specs.Slots.{entryOf}
 use Rattle.method.proofs.RecordLaws.{never}
@@ -39,7 +39,7 @@ module _ {f : Row} (b : Blank f) where
   pub blank-right : (q : Row) → PairSound q f
   blank-right q = record { numbers = λ h. omega (arith, b .number); tickets = λ c d. let z = b .free in never (cc); later = λ c a. let z = b .free in never (cc) }
 
-  pub blank-past : (e : Rows.Row) → Past e f
+  pub blank-past : (e : Entry) → Past e f
   blank-past e = let z = b .free in record { unpointed = λ c. never (cc); other = λ a. never (cc); above = λ a. never (cc) }
 
 module _ (row row′ : ℕ → Row) (freed : (i : ℕ) → (row′ i ≡ row i) ⊎ Blank (row′ i)) where
@@ -58,14 +58,14 @@ module _ (row row′ : ℕ → Row) (freed : (i : ℕ) → (row′ i ≡ row i) 
   ]
 
   module _ (lost : (i : ℕ) → IsCommitted (row i) → (row′ i ≡ row i) ⊎ Gone row′ (entryOf (row i))) where
-    place : (e : Rows.Row) → Still row e ⊎ Gone row e → Still row′ e ⊎ Gone row′ e
+    place : (e : Entry) → Still row e ⊎ Gone row e → Still row′ e ⊎ Gone row′ e
     place e (inl k) = elim (lost (k .0) (k .1)) [
       | inl p ↦ inl (k .0, subst IsCommitted (sym p) (k .1), ap entryOf p ∙ k .2)
       | inr g ↦ inr (subst (Gone row′) (k .2) g)
     ]
     place e (inr g) = inr (every (Past e) (λ i b. blank-past b e) g)
 
-    pub sound-freed : (high : ℕ → ℕ) (last : ℕ) (es : List Rows.Row) → Sound row high last es → Sound row′ high last es
+    pub sound-freed : (high : ℕ → ℕ) (last : ℕ) (es : List Entry) → Sound row high last es → Sound row′ high last es
     sound-freed high last es v = record {
       rows = every (RowSound high last) (λ i b. blank-row b high last) (v .rows);
       pairs = both PairSound (λ f b. blank-left b) (λ f b. blank-right b) (v .pairs);

@@ -7,11 +7,11 @@ use Prim.Native.Nat.{ℕ}
 use native.Mathlib.Decide.{ℕ-discrete}
 use Rattle.graph.specs.Path.{Cycle}
 use Rattle.graph.specs.Acyclic.{acyclic}
-use Rattle.rows.specs.Arrow.{arrowb}
-use Rattle.rows.specs.Rows
-use Rattle.rows.specs.Good.{Apart}
-use Rattle.rows.specs.Order.{InOrder}
-use Rattle.rows.proofs.OrderLaws.{order-exists-iff-no-cycle}
+use Rattle.orders.specs.Arrow.{arrowb}
+use Rattle.orders.specs.Entries.{Entry}
+use Rattle.orders.specs.Good.{Apart}
+use Rattle.orders.specs.Order.{InOrder}
+use Rattle.orders.proofs.OrderLaws.{order-exists-iff-no-cycle}
 use Rattle.method.specs.declared.Table.{Table}
 use Rattle.method.specs.declared.Answer.{Answer}
 use Rattle.method.specs.declared.Answered.{Answered}
@@ -36,7 +36,7 @@ pub closed-of-not-not : (t : Table) → ¬ ¬ Closed t → Closed t
 closed-of-not-not t n = elim (ℕ-discrete (t .sites) 0) [ yes e ↦ e | no e ↦ absurd (n e) ]
 
 -- a call that nothing refuses
-invariant-effect : (t : Table) (es : List Rows.Row) (c : Call) → Invariant t es → NoneHolds (rules t c) → Invariant (effect t c .table) (noted t (effect t c .answer) es)
+invariant-effect : (t : Table) (es : List Entry) (c : Call) → Invariant t es → NoneHolds (rules t c) → Invariant (effect t c .table) (noted t (effect t c .answer) es)
 unfolding rules effect decided
 invariant-effect t es (openWith first floors) v (a, (b, n)) = invariant-open t es first floors v (closed-of-not-not t a) b
 invariant-effect t es (begin sites) v (a, (b, (c, (d, n)))) = invariant-begin t es sites v a b d
@@ -51,7 +51,7 @@ invariant-effect t es (decide m) v (a, (b, (c, n))) = go (acyclic arrowb (ticket
 invariant-effect t es (forget m) v (a, (b, (c, (d, n)))) = invariant-forget t es m v a b d
 invariant-effect t es sweep v (a, n) = invariant-sweep t es v a
 
-pub invariant-step : (t : Table) (es : List Rows.Row) (c : Call) → Invariant t es → Invariant (step t c .table) (noted t (step t c .answer) es)
+pub invariant-step : (t : Table) (es : List Entry) (c : Call) → Invariant t es → Invariant (step t c .table) (noted t (step t c .answer) es)
 invariant-step t es c v = go (step-goes t c)
   where
     go : Steps t c (step t c) → Invariant (step t c .table) (noted t (step t c .answer) es)

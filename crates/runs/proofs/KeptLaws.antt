@@ -12,17 +12,16 @@ use Rattle.graph.specs.Path.{Cycle}
 use Rattle.graph.proofs.TestLaws.{true-or-false}
 use Rattle.graph.proofs.MemberLaws.{keep-of-true, keep-of-false, length-keep-le}
 use Rattle.graph.proofs.PathLaws.{cycle-of-larger}
-use Rattle.rows.specs.Rows
-use Rattle.rows.specs.Rows.{RowArrow, rowsOf, flatOf}
-use Rattle.rows.specs.Good.{Apart, Clash, GoodRows}
-use Rattle.rows.specs.Order.{InOrder}
-use Rattle.rows.proofs.RowsLaws.{length-flatOf, rows-of-flat}
-use Rattle.rows.proofs.GoodLaws.{apart-of-cons, apart-of-nil}
-use Rattle.rows.proofs.OrderLaws.{order-exists-iff-no-cycle}
+use Rattle.orders.specs.Entries.{Entry, EntryArrow, entriesIn, flatOf}
+use Rattle.orders.specs.Good.{Apart, Clash, GoodRows}
+use Rattle.orders.specs.Order.{InOrder}
+use Rattle.orders.proofs.EntriesLaws.{length-flatOf, entries-of-flat}
+use Rattle.orders.proofs.GoodLaws.{apart-of-cons, apart-of-nil}
+use Rattle.orders.proofs.OrderLaws.{order-exists-iff-no-cycle}
 use Rattle.method.specs.declared.Row.{Row}
 use Rattle.method.specs.declared.Table.{Table}
 use Rattle.method.specs.Records.{pastEnd, rowAt, committed}
-use Rattle.method.specs.Slots.{kept, entryOf, keptRows, keptFlat}
+use Rattle.method.specs.Slots.{kept, entryOf, keptEntries, keptFlat}
 use Rattle.method.proofs.RecordLaws.{never, committed-iff}
 use Rattle.method.proofs.SlotLaws.{place-of-kept}
 use Rattle.method.proofs.RowLaws.{length-tickets}
@@ -44,7 +43,7 @@ apart-of-slots (x ∷ rs) n p = go (true-or-false (committed x)) (apart-of-slots
     differ c j r e d (inr (s, h, k)) =
         p zero (suc j) (λ z. omega arith) .tickets (committed-iff (x .state) .0 c) (rw e (committed-iff (r .state) .0 d)) s h (rw e k)
 
-    no-clash : committed x ≡ true → (e : Rows.Row) → e ∈ map entryOf (keep committed rs) → ¬ Clash (entryOf x) e
+    no-clash : committed x ≡ true → (e : Entry) → e ∈ map entryOf (keep committed rs) → ¬ Clash (entryOf x) e
     no-clash c e m =
         let (r, l, q) = Memᴰ·of-map entryOf (keep committed rs) m in
         let (j, h, f, d) = place-of-kept committed rs pastEnd l in
@@ -54,12 +53,12 @@ apart-of-slots (x ∷ rs) n p = go (true-or-false (committed x)) (apart-of-slots
     go (inl c) a = rw (keep-of-true committed x rs c) (apart-of-cons (entryOf x) (map entryOf (keep committed rs)) (no-clash c) a)
     go (inr c) a = rw (keep-of-false committed x rs c) a
 
-module _ (t : Table) (es : List Rows.Row) (v : Invariant t es) where
+module _ (t : Table) (es : List Entry) (v : Invariant t es) where
   kept-slot : (r : Row) → r ∈ kept t → (i : ℕ) × (i < 32) × (rowAt t i ≡ r) × IsCommitted r
   unfolding kept
   kept-slot r m = let (i, h, e, c) = place-of-kept committed (t .rows) pastEnd m in (i, omega (arith, v .shape .slots), e, committed-iff (r .state) .0 c)
 
-  eight : (e : Rows.Row) → e ∈ keptRows t → length (e .tickets) ≡ 8
+  eight : (e : Entry) → e ∈ keptEntries t → length (e .tickets) ≡ 8
   unfolding entryOf
   eight e m =
       let (r, l, q) = Memᴰ·of-map entryOf (kept t) m in
@@ -67,14 +66,14 @@ module _ (t : Table) (es : List Rows.Row) (v : Invariant t es) where
       rw (sym q) (length-tickets r ∙ rw (sym f) (v .shape .parts i h))
 
   -- the flat list says the same as the rows
-  pub rows-of-kept : rowsOf (keptFlat t) ≡ keptRows t
-  rows-of-kept = rows-of-flat (keptRows t) eight
+  pub rows-of-kept : entriesIn (keptFlat t) ≡ keptEntries t
+  rows-of-kept = entries-of-flat (keptEntries t) eight
 
-  pub kept-apart : Apart (keptRows t)
+  pub kept-apart : Apart (keptEntries t)
   unfolding kept
   kept-apart = apart-of-slots (t .rows) (λ i. v .sound .rows i .named) (v .sound .pairs)
 
-  kept-named : (e : Rows.Row) → e ∈ keptRows t → 0 < e .number
+  kept-named : (e : Entry) → e ∈ keptEntries t → 0 < e .number
   unfolding entryOf
   kept-named e m =
       let (r, l, q) = Memᴰ·of-map entryOf (kept t) m in
@@ -84,7 +83,7 @@ module _ (t : Table) (es : List Rows.Row) (v : Invariant t es) where
   pub kept-good : GoodRows (keptFlat t)
   unfolding kept
   kept-good =
-      let l = length-flatOf (keptRows t) eight in
+      let l = length-flatOf (keptEntries t) eight in
       let m = length-map (kept t) entryOf in
       let k = length-keep-le committed (t .rows) in
       record {
@@ -95,10 +94,10 @@ module _ (t : Table) (es : List Rows.Row) (v : Invariant t es) where
       }
 
   -- they are among all that was committed, which makes no cycle
-  pub kept-ordered : (order : List ℕ) × InOrder (keptRows t) order
-  kept-ordered = order-exists-iff-no-cycle (keptRows t) (kept-apart .numbers) .1 (λ c. v .sound .acyclic (cycle-of-larger among c))
+  pub kept-ordered : (order : List ℕ) × InOrder (keptEntries t) order
+  kept-ordered = order-exists-iff-no-cycle (keptEntries t) (kept-apart .numbers) .1 (λ c. v .sound .acyclic (cycle-of-larger among c))
     where
-      among : keptRows t ⊆ es
+      among : keptEntries t ⊆ es
       among e m =
           let (r, l, q) = Memᴰ·of-map entryOf (kept t) m in
           let (i, h, f, c) = kept-slot r l in

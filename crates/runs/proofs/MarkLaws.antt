@@ -6,8 +6,8 @@ use mathlib.Core.List.{List}
 use Prim.Native.Nat.{ℕ, _<_}
 use native.Mathlib.Omega.{arith}
 use Rattle.graph.specs.Lists.{_∈_}
-use Rattle.rows.specs.Arrow.{Tickets}
-use Rattle.rows.specs.Rows
+use Rattle.orders.specs.Arrow.{Tickets}
+use Rattle.orders.specs.Entries.{Entry}
 use Rattle.method.specs.declared.Row.{Row}
 use Rattle.method.specs.Records.{ticketsOf}
 use Rattle.method.specs.Slots.{entryOf}
@@ -30,7 +30,7 @@ module _ {row row′ : ℕ → Row} {i : ℕ} {r : Row} (ch : Changed row i r ro
   unfolding Above
   above ts a s h = omega (arith, a s (m .sites′ s h), m .bases s)
 
-  module _ (high : ℕ → ℕ) (last : ℕ) (es : List Rows.Row) (v : Sound row high last es) where
+  module _ (high : ℕ → ℕ) (last : ℕ) (es : List Entry) (v : Sound row high last es) where
     old : RowSound high last (row i)
     old = v .rows i
 
@@ -61,14 +61,14 @@ module _ {row row′ : ℕ → Row} {i : ℕ} {r : Row} (ch : Changed row i r ro
       later = λ c a h. above (ticketsOf (row j)) (p .later c (m .was) (omega (arith, m .number)));
     }
 
-    past : (e : Rows.Row) → Past e (row i) → Past e r
+    past : (e : Entry) → Past e (row i) → Past e r
     past e p = record {
       unpointed = λ c. absurd (not-committed (m .is) c);
       other = λ a. omega (arith, m .number, p .other (m .was));
       above = λ a. above (e .tickets) (p .above (m .was));
     }
 
-    place : (e : Rows.Row) → Still row e ⊎ Gone row e → Still row′ e ⊎ Gone row′ e
+    place : (e : Entry) → Still row e ⊎ Gone row e → Still row′ e ⊎ Gone row′ e
     place e (inl k) = inl (keeps ch (not-committed (m .was)) k)
     place e (inr g) = inr (every ch (Past e) (past e (g i)) (λ j n. g j))
 

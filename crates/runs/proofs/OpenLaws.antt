@@ -10,8 +10,8 @@ use Rattle.graph.specs.Lists.{_∈_, anyOf}
 use Rattle.graph.proofs.TestLaws.{true-of-not-false}
 use Rattle.graph.proofs.MemberLaws.{member-or-not}
 use Rattle.graph.proofs.PathLaws.{no-path-of-nil}
-use Rattle.rows.specs.Rows
-use Rattle.rows.proofs.GoodLaws.{apart-of-nil}
+use Rattle.orders.specs.Entries.{Entry}
+use Rattle.orders.proofs.GoodLaws.{apart-of-nil}
 use Rattle.sites.specs.Sites.{sitesOf, Outside}
 use Rattle.sites.proofs.SitesLaws.{rising-sites, lt-of-member}
 use Rattle.method.specs.declared.Part.{Part}
@@ -83,7 +83,7 @@ length-padded zero fs = refl
 length-padded (suc k) [] = ap suc (length-padded k [])
 length-padded (suc k) (f ∷ fs) = ap suc (length-padded k fs)
 
-pub invariant-open : (t : Table) (es : List Rows.Row) (first : ℕ) (floors : List ℕ) → Invariant t es → Closed t → ¬ BadOpening first floors → Invariant (opened first floors) es
+pub invariant-open : (t : Table) (es : List Entry) (first : ℕ) (floors : List ℕ) → Invariant t es → Closed t → ¬ BadOpening first floors → Invariant (opened first floors) es
 unfolding opened
 invariant-open t es first floors v c b = subst (Invariant (opened first floors)) (sym (v .shut c .0)) (record {
   shape = shape-empty (opened first floors) refl (length-padded 8 floors) few;
@@ -134,7 +134,7 @@ begin-slot t nf =
     let (h, f) = first-found (λ (r : Row). isFree (r .state)) (t .rows) pastEnd e in
     (h, free-iff (rowAt t (freeSlot t) .state) .0 f)
 
-pub invariant-begin : (t : Table) (es : List Rows.Row) (sites : ℕ) → Invariant t es → ¬ Closed t → ¬ BadSites t sites → ¬ Full t → Invariant (effect t (begin sites) .table) es
+pub invariant-begin : (t : Table) (es : List Entry) (sites : ℕ) → Invariant t es → ¬ Closed t → ¬ BadSites t sites → ¬ Full t → Invariant (effect t (begin sites) .table) es
 unfolding effect newRow
 invariant-begin t es sites v nc bs nf = record {
   shape = shape-set t (withRow (withLast t (number (t .last .0 + 1))) (freeSlot t) (newRow t sites)) (freeSlot t) (newRow t sites) (v .shape) slot refl refl (v .shape .highs)

@@ -6,7 +6,7 @@ use Prim.Native.Nat.{ℕ}
 use native.Mathlib.Omega.{arith}
 use native.Mathlib.Decide.{ℕ-discrete}
 use Rattle.graph.proofs.TestLaws.{true-or-false, true-not-false}
-use Rattle.rows.specs.Rows
+use Rattle.orders.specs.Entries.{Entry}
 use Rattle.method.specs.declared.Number.{Number}
 use Rattle.method.specs.declared.Row.{Row}
 use Rattle.method.specs.declared.Table.{Table}
@@ -39,7 +39,7 @@ free-or-not r = elim (true-or-false (isFree (r .state))) [
 ]
 
 -- the slot that a begin takes is the lowest that is free
-module _ (t : Table) (es : List Rows.Row) (v : Invariant t es) where
+module _ (t : Table) (es : List Entry) (v : Invariant t es) where
   lowest : ¬ Full t → Lowest t (freeSlot t)
   unfolding freeSlot
   lowest nf =

@@ -9,7 +9,7 @@ use lib.ListN.{length, List·getD-eq-default}
 use Rattle.graph.specs.Lists.{_∈_}
 use Rattle.graph.proofs.MemberLaws.{member-or-not}
 use Rattle.graph.proofs.PlaceLaws.{member-of-place}
-use Rattle.rows.specs.Rows
+use Rattle.orders.specs.Entries.{Entry}
 use Rattle.sites.specs.Sites.{sitesOf}
 use Rattle.sites.proofs.SitesLaws.{lt-of-member}
 use Rattle.method.specs.declared.Ticket.{Ticket}
@@ -81,7 +81,7 @@ not-prepared : (g : Stage) (p : Report) → ¬ (stepOf g p ≡ Step.Refused) →
 not-prepared g Report.Ticket h e = let z = begun-of-step g h in never (cc)
 not-prepared g Report.Prepared h e = let z = ticketed-of-step g h in never (cc)
 
-module _ (t : Table) (es : List Rows.Row) (v : Invariant t es) (n s : ℕ) (p : Report)
+module _ (t : Table) (es : List Entry) (v : Invariant t es) (n s : ℕ) (p : Report)
     (nc : ¬ Closed t) (nu : ¬ Unknown t n) (nl : ¬ NotListed (rowOfNumber t n) s) (ns : ¬ NoStep (rowOfNumber t n) s p) where
   abbrev q : Row
   q = rowOfNumber t n
@@ -128,7 +128,7 @@ above-base q s k n = go (decLe k (base q s))
     go (yes l) = absurd (n l)
     go (no l) = omega arith
 
-pub invariant-ticket : (t : Table) (es : List Rows.Row) (n s k : ℕ) → Invariant t es → ¬ Closed t → ¬ Unknown t n → ¬ NotListed (rowOfNumber t n) s
+pub invariant-ticket : (t : Table) (es : List Entry) (n s k : ℕ) → Invariant t es → ¬ Closed t → ¬ Unknown t n → ¬ NotListed (rowOfNumber t n) s
     → ¬ NoStep (rowOfNumber t n) s Report.Ticket → ¬ NotAbove (rowOfNumber t n) s k → ¬ Taken t n s k → Invariant (effect t (reportTicket n s k) .table) es
 unfolding effect
 invariant-ticket t es n s k v nc nu nl ns na nt =
@@ -164,7 +164,7 @@ invariant-ticket t es n s k v nc nu nl ns na nt =
         go State.Active p = used State.Active p (λ z. never (cc))
         go State.Committed p = used State.Committed p (λ z. never (cc))
 
-pub invariant-prepared : (t : Table) (es : List Rows.Row) (n s : ℕ) → Invariant t es → ¬ Closed t → ¬ Unknown t n → ¬ NotListed (rowOfNumber t n) s
+pub invariant-prepared : (t : Table) (es : List Entry) (n s : ℕ) → Invariant t es → ¬ Closed t → ¬ Unknown t n → ¬ NotListed (rowOfNumber t n) s
     → ¬ NoStep (rowOfNumber t n) s Report.Prepared → Invariant (effect t (reportPrepared n s) .table) es
 unfolding effect
 invariant-prepared t es n s v nc nu nl ns =

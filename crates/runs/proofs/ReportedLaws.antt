@@ -4,8 +4,8 @@ use mathlib.Core.List.{List, _∷_, List·Memᴰ·head as here, List·Memᴰ·ta
 use mathlib.Core.Logic.{_↔_, _⊎_, inl, inr}
 use Prim.Native.Nat.{ℕ, _<_}
 use Rattle.graph.specs.Lists.{_∈_}
-use Rattle.rows.specs.Arrow.{ticketAt}
-use Rattle.rows.specs.Rows
+use Rattle.orders.specs.Arrow.{ticketAt}
+use Rattle.orders.specs.Entries.{Entry}
 use Rattle.method.specs.declared.Table.{Table}
 use Rattle.method.specs.declared.Answer.{Answer}
 use Rattle.method.specs.Records.{number, rowAt}
@@ -24,7 +24,7 @@ use Rattle.runs.proofs.RowsFollowLaws.{rows-follow-run}
 use Rattle.runs.proofs.StepLaws.{Change, Change.refuses, Change.opens, Change.begins, Change.tickets, Change.prepares, Change.commits, Change.frees, Change.sweeps}
 
 -- an answer is a commit, which notes its row, or notes nothing
-module _ (t : Table) (c : Call) (a : Answer) (u : Table) (es : List Rows.Row) where
+module _ (t : Table) (c : Call) (a : Answer) (u : Table) (es : List Entry) where
   pub data Notes : Type 0 where
     one : (n : ℕ) → Commits n t c a → IsActive (rowOfNumber t n) → num (rowOfNumber t n) ≡ n → noted t a es ≡ entryOf (rowOfNumber t n) ∷ es → Notes
     none : ((n : ℕ) → ¬ Commits n t c a) → noted t a es ≡ es → Notes
@@ -56,34 +56,34 @@ module _ (t : Table) (c : Call) (a : Answer) (u : Table) (m s k : ℕ) (x : Take
   active-of-ticket (sweeps j nc e f ch sm) = never (cc)
 
 -- a row of the history with the number
-abbrev Entry : List Rows.Row → ℕ → Type 0
-Entry es n = (e : Rows.Row) × (e ∈ es) × (e .number ≡ n)
+abbrev EntryWith : List Entry → ℕ → Type 0
+EntryWith es n = (e : Entry) × (e ∈ es) × (e .number ≡ n)
 
 abbrev notes-of : (r : Run) (c : Call) → Notes (after r) c (answerTo r c) (step (after r) c .table) (history r)
 notes-of r c = notes (after r) c (answerTo r c) (step (after r) c .table) (history r) (change-of-run r c)
 
-pub history-commits : (r : Run) (n : ℕ) → Happened (Commits n) r ↔ Entry (history r) n
+pub history-commits : (r : Run) (n : ℕ) → Happened (Commits n) r ↔ EntryWith (history r) n
 unfolding Happened history entryOf
 history-commits start n = (λ x. absurd x, λ x. absurd (List·Memᴰ·not-nil (x .1)))
 history-commits (call r c) n = go (notes-of r c) (history-commits r n)
   where
-    go : Notes (after r) c (answerTo r c) (step (after r) c .table) (history r) → Happened (Commits n) r ↔ Entry (history r) n
-        → (Commits n (after r) c (answerTo r c) ⊎ Happened (Commits n) r) ↔ Entry (noted (after r) (answerTo r c) (history r)) n
+    go : Notes (after r) c (answerTo r c) (step (after r) c .table) (history r) → Happened (Commits n) r ↔ EntryWith (history r) n
+        → (Commits n (after r) c (answerTo r c) ⊎ Happened (Commits n) r) ↔ EntryWith (noted (after r) (answerTo r c) (history r)) n
     go (one m x ac nm p) h = rw p (forth, back)
       where
-        forth : Commits n (after r) c (answerTo r c) ⊎ Happened (Commits n) r → Entry (entryOf (rowOfNumber (after r) m) ∷ history r) n
+        forth : Commits n (after r) c (answerTo r c) ⊎ Happened (Commits n) r → EntryWith (entryOf (rowOfNumber (after r) m) ∷ history r) n
         forth (inl z) = (entryOf (rowOfNumber (after r) m), here refl, nm ∙ (let q : decide m ≡ decide n = cc in cc))
         forth (inr z) = let (e, i, g) = h .0 z in (e, there i, g)
 
-        back : Entry (entryOf (rowOfNumber (after r) m) ∷ history r) n → Commits n (after r) c (answerTo r c) ⊎ Happened (Commits n) r
-        back (e, here q, g) = inl (let w : m ≡ n = sym nm ∙ ap (λ (y : Rows.Row). y .number) (sym q) ∙ g in rw w at x)
+        back : EntryWith (entryOf (rowOfNumber (after r) m) ∷ history r) n → Commits n (after r) c (answerTo r c) ⊎ Happened (Commits n) r
+        back (e, here q, g) = inl (let w : m ≡ n = sym nm ∙ ap (λ (y : Entry). y .number) (sym q) ∙ g in rw w at x)
         back (e, there i, g) = inr (h .1 (e, i, g))
     go (none f p) h = rw p ((λ y. elim y [ inl z ↦ absurd (f n z) | inr z ↦ h .0 z ]), λ y. inr (h .1 y))
 
-abbrev Reported : Run → Rows.Row → Type 0
+abbrev Reported : Run → Entry → Type 0
 Reported r e = (s k : ℕ) → 0 < k → (ticketAt (e .tickets) s ≡ k) ↔ Happened (TakesTicket (e .number) s k) r
 
-pub history-reported : (r : Run) (e : Rows.Row) → e ∈ history r → Reported r e
+pub history-reported : (r : Run) (e : Entry) → e ∈ history r → Reported r e
 unfolding history entryOf
 history-reported start e m = absurd (List·Memᴰ·not-nil m)
 history-reported (call r c) e m = go (notes-of r c) m (history-reported r e)

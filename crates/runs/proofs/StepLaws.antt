@@ -9,8 +9,8 @@ use native.Mathlib.Omega.{arith}
 use lib.ListN.{length}
 use Rattle.graph.specs.Lists.{_∈_}
 use Rattle.graph.specs.Acyclic.{acyclic}
-use Rattle.rows.specs.Arrow.{arrowb}
-use Rattle.rows.specs.Rows
+use Rattle.orders.specs.Arrow.{arrowb}
+use Rattle.orders.specs.Entries.{Entry}
 use Rattle.sites.specs.Sites.{sitesOf}
 use Rattle.method.specs.declared.Ticket.{Ticket}
 use Rattle.method.specs.declared.Stage.{Stage}
@@ -63,7 +63,7 @@ module _ (t : Table) (c : Call) (a : Answer) (u : Table) where
     sweeps : (k : ℕ) → ¬ Closed t → c ≡ sweep → a ≡ Answer.Swept k → ((i : ℕ) → (rowAt u i ≡ rowAt t i) ⊎ (rowAt u i ≡ freeRow)) → Same → Change
 
 -- every step is one of these
-module _ (t : Table) (es : List Rows.Row) (v : Invariant t es) where
+module _ (t : Table) (es : List Entry) (v : Invariant t es) where
   abbrev To : Call → Answered → Type 0
   To c r = Change t c (r .answer) (r .table)
 

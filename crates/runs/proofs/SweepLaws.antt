@@ -12,7 +12,7 @@ use Rattle.graph.specs.Path.{ArrowPath.one}
 use Rattle.graph.specs.Reached.{Reached}
 use Rattle.graph.proofs.TestLaws.{true-or-false, true-not-false}
 use Rattle.graph.proofs.ReachedLaws.{reached-of-next}
-use Rattle.rows.specs.Rows
+use Rattle.orders.specs.Entries.{Entry}
 use Rattle.method.specs.declared.Row.{Row}
 use Rattle.method.specs.declared.Table.{Table}
 use Rattle.method.specs.Records.{freeRow, pastEnd, rowAt, highAt, committed, Goes}
@@ -81,7 +81,7 @@ module _ (t : Table) where
     no-arrow-in j d k a = true-not-false
         (stays-iff t (rowAt t i) (kept-of-slot i c) .1 (reached-of-next (kept-of-slot i c) (stays-iff t (rowAt t j) (kept-of-slot j d) .0 k) (kept-of-slot j d) a)) s
 
-  pub invariant-sweep : (es : List Rows.Row) → Invariant t es → ¬ Closed t → Invariant (sweptTable t) es
+  pub invariant-sweep : (es : List Entry) → Invariant t es → ¬ Closed t → Invariant (sweptTable t) es
   invariant-sweep es v nc = record {
     shape = shape-freed t (sweptTable t) (v .shape) (length-map (t .rows) (sweptRow t) ∙ v .shape .slots) refl refl slot-cases no-site-free;
     sound = sound-freed (rowAt t) row′ free lost (highAt t) (t .last .0) es (v .sound);

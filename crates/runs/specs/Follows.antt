@@ -5,8 +5,8 @@ use mathlib.Core.Logic.{_↔_, _⊎_}
 use Prim.Native.Nat.{ℕ, _+_, _-_, _<_, _≤_}
 use lib.ListN.{length, getD}
 use Rattle.graph.specs.Lists.{_∈_}
-use Rattle.rows.specs.Arrow.{ticketAt}
-use Rattle.rows.specs.Rows
+use Rattle.orders.specs.Arrow.{ticketAt}
+use Rattle.orders.specs.Entries.{Entry}
 use Rattle.method.specs.declared.Stage.{Stage}
 use Rattle.method.specs.declared.Row.{Row}
 use Rattle.method.specs.declared.Table.{Table}
@@ -34,10 +34,10 @@ pub record RowFollows (r : Run) (q : Row) : Type 0 where
   pub committed : IsCommitted q ↔ Happened (Commits (num q)) r
 
 -- the greatest of a floor and of the tickets that rows have at a site
-pub record Greatest (k floor : ℕ) (es : List Rows.Row) (s : ℕ) : Type 0 where
+pub record Greatest (k floor : ℕ) (es : List Entry) (s : ℕ) : Type 0 where
   pub least : floor ≤ k
-  pub all : (e : Rows.Row) → e ∈ es → ticketAt (e .tickets) s ≤ k
-  pub one : (k ≡ floor) ⊎ ((e : Rows.Row) × (e ∈ es) × (ticketAt (e .tickets) s ≡ k))
+  pub all : (e : Entry) → e ∈ es → ticketAt (e .tickets) s ≤ k
+  pub one : (k ≡ floor) ⊎ ((e : Entry) × (e ∈ es) × (ticketAt (e .tickets) s ≡ k))
 
 pub record Follows (r : Run) : Type 0 where
   pub rows : (i : ℕ) → ¬ IsFree (rowAt (after r) i) → RowFollows r (rowAt (after r) i)

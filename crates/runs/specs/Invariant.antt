@@ -4,7 +4,7 @@ use mathlib.Core.Path.{_≡_}
 use mathlib.Core.List.{List, []}
 use Prim.Native.Nat.{ℕ, _≤_, _<_}
 use lib.ListN.{length}
-use Rattle.rows.specs.Rows
+use Rattle.orders.specs.Entries.{Entry}
 use Rattle.method.specs.declared.Table.{Table}
 use Rattle.method.specs.Records.{freeRow, closed, rowAt, highAt}
 use Rattle.method.specs.Conditions.{Closed}
@@ -22,7 +22,7 @@ pub record Shape (t : Table) : Type 0 where
   pub sites : t .sites ≤ 8
   pub own : (i s : ℕ) → Has (rowAt t i) s → s < t .sites
 
-pub record Invariant (t : Table) (es : List Rows.Row) : Type 0 where
+pub record Invariant (t : Table) (es : List Entry) : Type 0 where
   pub shape : Shape t
   pub sound : Sound (rowAt t) (highAt t) (t .last .0) es
   pub orderly : Orderly (rowAt t)

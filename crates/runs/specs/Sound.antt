@@ -7,10 +7,9 @@ use mathlib.Core.Logic.{_≢_, _⊎_}
 use Prim.Native.Nat.{ℕ, _≤_, _<_}
 use Rattle.graph.specs.Lists.{_∈_}
 use Rattle.graph.specs.Path.{Cycle}
-use Rattle.rows.specs.Arrow.{Tickets, ticketAt, Arrow}
-use Rattle.rows.specs.Rows
-use Rattle.rows.specs.Rows.{RowArrow}
-use Rattle.rows.specs.Good.{Apart}
+use Rattle.orders.specs.Arrow.{Tickets, ticketAt, Arrow}
+use Rattle.orders.specs.Entries.{Entry, EntryArrow}
+use Rattle.orders.specs.Good.{Apart}
 use Rattle.sites.specs.Sites.{sitesOf}
 use Rattle.method.specs.declared.Stage.{Stage}
 use Rattle.method.specs.declared.State.{State}
@@ -73,31 +72,31 @@ pub record PairSound (q r : Row) : Type 0 where
   pub later : IsCommitted q → IsActive r → q .last .0 < num r → Above r (ticketsOf q)
 
 -- of a forgotten one and a slot: no arrow leads from the slot to it, now or later
-pub record Past (e : Rows.Row) (r : Row) : Type 0 where
+pub record Past (e : Entry) (r : Row) : Type 0 where
   pub unpointed : IsCommitted r → ¬ Arrow (ticketsOf r) (e .tickets)
   pub other : IsActive r → num r ≢ e .number
   pub above : IsActive r → Above r (e .tickets)
 
 module _ (row : ℕ → Row) where
   -- a slot still holds it; or it is forgotten
-  abbrev pub Still : Rows.Row → Type 0
+  abbrev pub Still : Entry → Type 0
   Still e = (i : ℕ) × IsCommitted (row i) × (entryOf (row i) ≡ e)
 
-  abbrev pub Gone : Rows.Row → Type 0
+  abbrev pub Gone : Entry → Type 0
   Gone e = (i : ℕ) → Past e (row i)
 
   -- of one that was ever committed
-  pub record EntrySound (high : ℕ → ℕ) (last : ℕ) (e : Rows.Row) : Type 0 where
+  pub record EntrySound (high : ℕ → ℕ) (last : ℕ) (e : Entry) : Type 0 where
     pub counted : e .number ≤ last
     pub below : (s : ℕ) → ticketAt (e .tickets) s ≤ high s
     pub place : Still e ⊎ Gone e
 
-  pub record Sound (high : ℕ → ℕ) (last : ℕ) (es : List Rows.Row) : Type 0 where
+  pub record Sound (high : ℕ → ℕ) (last : ℕ) (es : List Entry) : Type 0 where
     pub rows : (i : ℕ) → RowSound high last (row i)
     pub pairs : (i j : ℕ) → i ≢ j → PairSound (row i) (row j)
-    pub entries : (e : Rows.Row) → e ∈ es → EntrySound high last e
+    pub entries : (e : Entry) → e ∈ es → EntrySound high last e
     -- what a slot holds as committed was committed
     pub noted : (i : ℕ) → IsCommitted (row i) → entryOf (row i) ∈ es
     -- all that was ever committed differs, and makes no cycle
     pub apart : Apart es
-    pub acyclic : ¬ Cycle RowArrow es
+    pub acyclic : ¬ Cycle EntryArrow es

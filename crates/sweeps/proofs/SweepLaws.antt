@@ -12,9 +12,9 @@ use lib.Seq.{take-all}
 use borrow.Author.Tests.{eqb-true, eq-eqb, ne-eqb}
 use Rattle.graph.proofs.TestLaws.{or-of-right, either-of-or, and-of-both, both-of-and, same-of-iff}
 use Rattle.graph.proofs.LeftLaws.{keep-keep}
-use Rattle.square.specs.Square.{Marked, TellsReached}
-use Rattle.square.specs.Slotted.{MarkedAs}
-use Rattle.square.proofs.SlottedLaws.{reached-of-answer}
+use Rattle.paths.specs.Paths.{Marked, TellsReached}
+use Rattle.paths.specs.Slotted.{MarkedAs}
+use Rattle.paths.proofs.SlottedLaws.{reached-of-answer}
 use Rattle.kept.specs.Aligned.{takesPart, Aligned}
 use Rattle.kept.proofs.AlignedLaws.{In, slotted-kept}
 use Rattle.graph.specs.Lists.{keep}

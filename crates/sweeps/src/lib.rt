@@ -21,7 +21,7 @@ fn held(t: Table) -> [bool; 32]
         let row = t.rows[i];
         let state = row.state;
         if records::is_committed(state) {
-            let b = holders::is_held_back(t, row);
+            let b = blockers::is_held_back(t, row);
             marks[i] = b;
         }
         i += 1;
@@ -86,6 +86,6 @@ pub fn sweep(t: Table) -> Answered
     }
     let flat = kept::aligned(t, 32);
     let marks = held(t);
-    let stay = square::reached(flat, marks);
+    let stay = paths::reached(flat, marks);
     cleared(t, stay)
 }

@@ -9,22 +9,22 @@ use lib.Seq.{take-length, drop-length}
 use Rattle.endian.specs.Laid.{laid}
 use Rattle.graph.specs.Acyclic.{acyclic, peel}
 use Rattle.graph.specs.Order.{write, greedy}
-use Rattle.rows.specs.Rows.{numberOf, rowArrowb, rowsFrom, rowsOf}
-use Rattle.rows.specs.Good.{apartb, goodb}
-use Rattle.rows.specs.Reply.Reply.{refused, wrote}
-use Rattle.rows.specs.Write.{writeResult}
+use Rattle.orders.specs.Entries.{numberOf, entryArrowb, entriesFrom, entriesIn}
+use Rattle.orders.specs.Good.{apartb, goodb}
+use Rattle.orders.specs.Reply.Reply.{refused, wrote}
+use Rattle.orders.specs.Write.{writeResult}
 use Rattle.writer.proofs.WriterLaws.{leaves-no-room, leaves-order}
 
 pub good-of-none : goodb [] ≡ true
-unfolding goodb rowsOf rowsFrom apartb
+unfolding goodb entriesIn entriesFrom apartb
 good-of-none = refl
 
-acyclic-of-none : acyclic rowArrowb (rowsOf []) ≡ true
-unfolding acyclic peel rowsOf rowsFrom
+acyclic-of-none : acyclic entryArrowb (entriesIn []) ≡ true
+unfolding acyclic peel entriesIn entriesFrom
 acyclic-of-none = refl
 
-greedy-of-none : [] ≡ greedy rowArrowb numberOf (rowsOf [])
-unfolding greedy write rowsOf rowsFrom
+greedy-of-none : [] ≡ greedy entryArrowb numberOf (entriesIn [])
+unfolding greedy write entriesIn entriesFrom
 greedy-of-none = refl
 
 laid-of-none : (out : List ℕ) → laid out (length out) [] ≡ out

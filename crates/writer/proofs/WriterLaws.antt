@@ -13,13 +13,13 @@ use Rattle.graph.specs.Acyclic.{acyclic}
 use Rattle.graph.specs.Order.{greedy}
 use Rattle.graph.proofs.TestLaws.{same-of-iff}
 use Rattle.graph.proofs.FullLaws.{length-greedy-le, acyclic-of-length}
-use Rattle.rows.specs.Rows.{numberOf, rowArrowb, rowsOf}
-use Rattle.rows.specs.Good.{goodb}
-use Rattle.rows.specs.Reply.{Reply}
-use Rattle.rows.specs.Reply.Reply.{refused, wrote}
-use Rattle.rows.specs.Write.{orderWritten, writeResult}
-use Rattle.rows.proofs.RowsLaws.{length-rowsOf}
-use Rattle.rows.proofs.GoodLaws.{goodb→good}
+use Rattle.orders.specs.Entries.{numberOf, entryArrowb, entriesIn}
+use Rattle.orders.specs.Good.{goodb}
+use Rattle.orders.specs.Reply.{Reply}
+use Rattle.orders.specs.Reply.Reply.{refused, wrote}
+use Rattle.orders.specs.Write.{orderWritten, writeResult}
+use Rattle.orders.proofs.EntriesLaws.{length-entriesIn}
+use Rattle.orders.proofs.GoodLaws.{goodb→good}
 use Rattle.writer.specs.Picks.{PickedOrder}
 
 pub room-of-rest : (len place n : ℕ) → place ≤ len → leb (place + n) len ≡ leb n (len - place)
@@ -39,31 +39,31 @@ module _ (flat : List ℕ) (place : ℕ) (out : List ℕ) where
   module _ (g : goodb flat ≡ true) where
     pub leaves-no-room : length out < place + length flat / 9 → Leaves (refused 14) out
     unfolding writeResult
-    leaves-no-room h = rw (g, length-rowsOf flat, lt-ltb (length out) (place + length flat / 9) h) (refl, refl)
+    leaves-no-room h = rw (g, length-entriesIn flat, lt-ltb (length out) (place + length flat / 9) h) (refl, refl)
 
     module _ (h : place + length flat / 9 ≤ length out) where
-      leaves-no-order : acyclic rowArrowb (rowsOf flat) ≡ false → Leaves (refused 12) out
+      leaves-no-order : acyclic entryArrowb (entriesIn flat) ≡ false → Leaves (refused 12) out
       unfolding writeResult
-      leaves-no-order e = rw (g, length-rowsOf flat, le-ltb (length out) (place + length flat / 9) h, e) (refl, refl)
+      leaves-no-order e = rw (g, length-entriesIn flat, le-ltb (length out) (place + length flat / 9) h, e) (refl, refl)
 
-      pub leaves-order : acyclic rowArrowb (rowsOf flat) ≡ true → (o : List ℕ) → o ≡ greedy rowArrowb numberOf (rowsOf flat) → Leaves (wrote (length o)) (laid out place o)
+      pub leaves-order : acyclic entryArrowb (entriesIn flat) ≡ true → (o : List ℕ) → o ≡ greedy entryArrowb numberOf (entriesIn flat) → Leaves (wrote (length o)) (laid out place o)
       unfolding writeResult orderWritten
-      leaves-order e o q = rw (g, length-rowsOf flat, le-ltb (length out) (place + length flat / 9) h, e, q) (refl, refl)
+      leaves-order e o q = rw (g, length-entriesIn flat, le-ltb (length out) (place + length flat / 9) h, e, q) (refl, refl)
 
       -- what was picked tells whether there is an order
       module _ (numbers : List ℕ) (k : ℕ) (p : PickedOrder flat numbers k) where
-        count : length (greedy rowArrowb numberOf (rowsOf flat)) ≡ k
+        count : length (greedy entryArrowb numberOf (entriesIn flat)) ≡ k
         count = ap length (sym (p .order)) ∙ length-take-le k numbers (omega (arith, p .size, p .within))
 
-        acyclic-of-count : acyclic rowArrowb (rowsOf flat) ≡ eqb k (length flat / 9)
-        acyclic-of-count = acyclic-of-length rowArrowb numberOf (rowsOf flat) (goodb→good flat g .apart .numbers) ∙ rw (count, length-rowsOf flat)
+        acyclic-of-count : acyclic entryArrowb (entriesIn flat) ≡ eqb k (length flat / 9)
+        acyclic-of-count = acyclic-of-length entryArrowb numberOf (entriesIn flat) (goodb→good flat g .apart .numbers) ∙ rw (count, length-entriesIn flat)
 
         pub leaves-short : k < length flat / 9 → Leaves (refused 12) out
         leaves-short l = leaves-no-order (acyclic-of-count ∙ ne-eqb k (length flat / 9) (λ e. omega arith))
 
         pub leaves-full : length flat / 9 ≤ k → Leaves (wrote (length flat / 9)) (laid out place (take (length flat / 9) numbers))
         leaves-full l =
-            let e : k ≡ length flat / 9 = omega (arith, count, length-rowsOf flat, length-greedy-le rowArrowb numberOf (rowsOf flat)) in
+            let e : k ≡ length flat / 9 = omega (arith, count, length-entriesIn flat, length-greedy-le entryArrowb numberOf (entriesIn flat)) in
             let n : length (take (length flat / 9) numbers) ≡ length flat / 9 = length-take-le (length flat / 9) numbers (omega (arith, p .size, p .within)) in
             let r = leaves-order (acyclic-of-count ∙ eq-eqb k (length flat / 9) e) (take (length flat / 9) numbers) (rw e at (p .order)) in
             (ap {B = Reply} (λ m. wrote m) (sym n) ∙ r .0, r .1)

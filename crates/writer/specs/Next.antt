@@ -6,7 +6,7 @@ use mathlib.Core.Logic.{_⊎_}
 use Prim.Native.Nat.{ℕ, zero, suc, _/_, _<_, _≤_}
 use lib.Dec.{leb, ltb}
 use lib.ListN.{length, getD}
-use Rattle.rows.specs.Rows.{rowAt, rowArrowb}
+use Rattle.orders.specs.Entries.{entryAt, entryArrowb}
 
 -- some place below n passes
 unfoldable pub anyBelow : (ℕ → Bool) → ℕ → Bool
@@ -28,11 +28,11 @@ module _ (may : ℕ → Bool) (num : ℕ → ℕ) (none : ℕ) where
   leastBelow (suc k) = better (leastBelow k) k
 
 abbrev pub numberAt : List ℕ → ℕ → ℕ
-numberAt flat i = rowAt flat i .number
+numberAt flat i = entryAt flat i .number
 
 -- row i is not marked as placed, and goes before row j
 abbrev pub waits : List ℕ → List Bool → ℕ → ℕ → Bool
-waits flat marks j i = not (getD marks i false) && rowArrowb (rowAt flat i) (rowAt flat j)
+waits flat marks j i = not (getD marks i false) && entryArrowb (entryAt flat i) (entryAt flat j)
 
 unfoldable pub mayStand : List ℕ → List Bool → ℕ → Bool
 mayStand flat marks j = not (getD marks j false) && not (anyBelow (waits flat marks j) (length flat / 9))

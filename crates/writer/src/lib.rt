@@ -4,11 +4,11 @@ ghost use Prim.Native.Nat.{_+_, _≤_};
 ghost use lib.Dec.{leb};
 ghost use lib.ListN.{length, take};
 ghost use Rattle.endian.specs.Laid.{laid};
-ghost use Rattle.rows.specs.Reply.{writeReply};
-ghost use Rattle.rows.specs.Write.{writeResult};
+ghost use Rattle.orders.specs.Reply.{writeReply};
+ghost use Rattle.orders.specs.Write.{writeResult};
 use good::is_good;
+use orders::WriteAnswer;
 use picks::pick;
-use rows::WriteAnswer;
 
 mod picks;
 

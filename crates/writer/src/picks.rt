@@ -4,7 +4,7 @@ ghost use mathlib.Core.Bool.{_||_};
 ghost use Prim.Native.Nat.{_<_, _≤_, _/_};
 ghost use lib.Dec.{leb, ltb};
 ghost use lib.ListN.{length};
-ghost use Rattle.rows.specs.Good.{GoodRows};
+ghost use Rattle.orders.specs.Good.{GoodRows};
 ghost use Rattle.writer.specs.Next.{numberAt, waits, mayStand, better as betterOf, nextOf};
 ghost use Rattle.writer.specs.Picks.{PickedOrder};
 use arrows::goes_before;

@@ -4,16 +4,16 @@ use mathlib.Core.Path.{_≡_, refl, sym, _∙_}
 use Prim.Native.Nat.{_≤_, _-_, _/_}
 use lib.ListN.{length, take}
 use borrow.Author.Needs.{needs}
-use Rattle.rows.specs.Arrow.{beforeb, arrowb}
-use Rattle.rows.specs.Rows.{rowAt}
-use Rattle.rows.proofs.WalkLaws.{arrow-more, any-site-all}
+use Rattle.orders.specs.Arrow.{beforeb, arrowb}
+use Rattle.orders.specs.Entries.{entryAt}
+use Rattle.orders.proofs.WalkLaws.{arrow-more, any-site-all}
 use Rattle.arrows.proofs.PastLaws.{no-arrow-of-past, no-arrow-to-past}
 use Rattle.arrows.proofs.goes_before.Statement.{statement}
 use Rattle.arrows.proofs.goes_before.Tie as tie
 
 abbrev Inv-loop : tie.InvT-loop
 Inv-loop rows a b n found₀ s₀ found s =
-    (s ≤ 8) × (a ≤ length rows / 9) × (b ≤ length rows / 9) × (found ≡ arrowb (take s (rowAt rows a .tickets)) (take s (rowAt rows b .tickets)))
+    (s ≤ 8) × (a ≤ length rows / 9) × (b ≤ length rows / 9) × (found ≡ arrowb (take s (entryAt rows a .tickets)) (take s (entryAt rows b .tickets)))
 
 abbrev μ-loop : tie.MeasureT-loop
 μ-loop rows a b n found₀ s₀ found s = 8 - s
@@ -43,7 +43,7 @@ loop-again : tie.Need-loop-again Inv-loop μ-loop
 loop-again c =
     let l = c .before .before .before in
     let a = l .before .before .before .before .args in
-    let row = rowAt (a .rows .now) in (
+    let row = entryAt (a .rows .now) in (
       search needs,
       l .loop .inv .1,
       l .loop .inv .2,

@@ -5,7 +5,7 @@ use lib.ListN.{replicate}
 use denote.Ref.{now}
 use borrow.Author.Needs.{needs}
 use Rattle.endian.proofs.WordsLaws.{words-of-stored, length-of-stored}
-use Rattle.rows.specs.Order.{checkResult}
+use Rattle.orders.specs.Order.{checkResult}
 use Rattle.ccheck.proofs.CallLaws.{result-of-part, result-of-many, result-of-check}
 use Rattle.ccheck.proofs.judge.Statement.{statement}
 use Rattle.ccheck.proofs.judge.Tie as tie

@@ -9,10 +9,10 @@ use denote.Ref.{now}
 use borrow.Author.Needs.{needs}
 use borrow.Author.Tests.{not-true, not-false}
 use Rattle.graph.specs.Check.{allStand}
-use Rattle.rows.specs.Rows.{numberOf, rowArrowb, rowsOf}
-use Rattle.rows.specs.Good.{goodb}
-use Rattle.rows.specs.Order.{inOrderb}
-use Rattle.rows.proofs.OrderLaws.{no-order-of-length}
+use Rattle.orders.specs.Entries.{numberOf, entryArrowb, entriesIn}
+use Rattle.orders.specs.Good.{goodb}
+use Rattle.orders.specs.Order.{inOrderb}
+use Rattle.orders.proofs.OrderLaws.{no-order-of-length}
 use Rattle.checker.proofs.AnswerLaws.{check-of-bad, check-of-wrong, check-of-right}
 use Rattle.checker.proofs.StandLaws.{stand-end, stand-no, stand-more, order-of-places}
 use Rattle.checker.proofs.check.Statement.{statement}
@@ -20,7 +20,7 @@ use Rattle.checker.proofs.check.Tie as tie
 
 abbrev Inv-loop : tie.InvT-loop
 Inv-loop rows order p₀ p =
-    (p ≤ length order) × (goodb rows ≡ true) × (inOrderb (rowsOf rows) order ≡ allStand rowArrowb numberOf (rowsOf rows) (take p order) (drop p order))
+    (p ≤ length order) × (goodb rows ≡ true) × (inOrderb (entriesIn rows) order ≡ allStand entryArrowb numberOf (entriesIn rows) (take p order) (drop p order))
 
 abbrev μ-loop : tie.MeasureT-loop
 μ-loop rows order p₀ p = length order - p
@@ -65,7 +65,7 @@ returns-3 c =
     let l = c .before .before .before .before .before in
     let a = l .before .before .before .before .before .before .args in
     sym (check-of-wrong (now (a .rows)) (now (a .order)) (l .loop .inv .1)
-    (l .loop .inv .2 ∙ stand-no (rowsOf (now (a .rows))) (now (a .order)) (l .loop .p) (omega arith) (sym (c .before .may-stand .ensures) ∙ not-true (c .before .may-stand .result) (c .if3 .taken))))
+    (l .loop .inv .2 ∙ stand-no (entriesIn (now (a .rows))) (now (a .order)) (l .loop .p) (omega arith) (sym (c .before .may-stand .ensures) ∙ not-true (c .before .may-stand .result) (c .if3 .taken))))
 
 add-p : tie.Need-add-p Inv-loop μ-loop
 add-p c = search needs
@@ -79,7 +79,7 @@ loop-again c =
     let a = l .before .before .before .before .before .before .args in (
       search needs,
       l .loop .inv .1,
-      l .loop .inv .2 ∙ stand-more (rowsOf (now (a .rows))) (now (a .order)) (l .loop .p) (omega arith) (sym (c .before .may-stand .ensures) ∙ not-false (c .before .may-stand .result) (c .if3 .left)),
+      l .loop .inv .2 ∙ stand-more (entriesIn (now (a .rows))) (now (a .order)) (l .loop .p) (omega arith) (sym (c .before .may-stand .ensures) ∙ not-false (c .before .may-stand .result) (c .if3 .left)),
     )
 
 returns-4 : tie.Need-returns-4 Inv-loop μ-loop
@@ -87,7 +87,7 @@ returns-4 c =
     let l = c .before in
     let a = l .before .before .before .before .before .before .args in
     sym (check-of-right (now (a .rows)) (now (a .order)) (l .loop .inv .1)
-    (l .loop .inv .2 ∙ stand-end (rowsOf (now (a .rows))) (now (a .order)) (l .loop .p) (omega arith)))
+    (l .loop .inv .2 ∙ stand-end (entriesIn (now (a .rows))) (now (a .order)) (l .loop .p) (omega arith)))
 
 pub check-spec : {M : Type 1} → statement M
 check-spec =

@@ -6,17 +6,17 @@ use lib.Dec.{eqb}
 use lib.ListN.{take}
 use denote.Ref.{now}
 use borrow.Author.Needs.{needs}
-use Rattle.rows.specs.Arrow.{ticketAt, anySite}
-use Rattle.rows.specs.Rows.{rowAt}
-use Rattle.rows.specs.Good.{sameb}
-use Rattle.rows.proofs.GoodLaws.{sameb-zero}
-use Rattle.rows.proofs.WalkLaws.{any-site-more, any-site-all}
+use Rattle.orders.specs.Arrow.{ticketAt, anySite}
+use Rattle.orders.specs.Entries.{entryAt}
+use Rattle.orders.specs.Good.{sameb}
+use Rattle.orders.proofs.GoodLaws.{sameb-zero}
+use Rattle.orders.proofs.WalkLaws.{any-site-more, any-site-all}
 use Rattle.good.proofs.clashes.Statement.{statement}
 use Rattle.good.proofs.clashes.Tie as tie
 
 abbrev Inv-loop : tie.InvT-loop
 Inv-loop rows i j a b found₀ s₀ found s =
-    (s ≤ 8) × (found ≡ eqb (rowAt rows i .number) (rowAt rows j .number) || anySite sameb (take s (rowAt rows i .tickets)) (take s (rowAt rows j .tickets)))
+    (s ≤ 8) × (found ≡ eqb (entryAt rows i .number) (entryAt rows j .number) || anySite sameb (take s (entryAt rows i .tickets)) (take s (entryAt rows j .tickets)))
 
 abbrev μ-loop : tie.MeasureT-loop
 μ-loop rows i j a b found₀ s₀ found s = 8 - s
@@ -46,8 +46,8 @@ loop-again : tie.Need-loop-again Inv-loop μ-loop
 loop-again c =
     let l = c .before .before .before in
     let a = l .before .before .before .before .args in
-    let q = rowAt (a .rows .now) (a .i) in
-    let r = rowAt (a .rows .now) (a .j) in
+    let q = entryAt (a .rows .now) (a .i) in
+    let r = entryAt (a .rows .now) (a .j) in
     let s = l .loop .s in (
       search needs,
       rw (l .loop .inv .1, c .before .ticket-at .ensures, c .ticket-at2 .ensures, any-site-more sameb (λ y. refl) sameb-zero (q .tickets) (r .tickets) s)
@@ -58,7 +58,7 @@ returns : tie.Need-returns Inv-loop μ-loop
 returns c =
     let l = c .before in
     let a = l .before .before .before .before .args in
-    l .loop .inv .1 ∙ ap (λ b. eqb (rowAt (now (a .rows)) (a .i) .number) (rowAt (now (a .rows)) (a .j) .number) || b) (any-site-all sameb (now (a .rows)) (a .i) (a .j) (l .loop .s) (c .loop-test .left))
+    l .loop .inv .1 ∙ ap (λ b. eqb (entryAt (now (a .rows)) (a .i) .number) (entryAt (now (a .rows)) (a .j) .number) || b) (any-site-all sameb (now (a .rows)) (a .i) (a .j) (l .loop .s) (c .loop-test .left))
 
 pub clashes-spec : {M : Type 1} → statement M
 clashes-spec =

@@ -6,15 +6,15 @@ use lib.ListN.{length}
 use denote.Ref.{now}
 use borrow.Author.Needs.{needs}
 use Rattle.graph.specs.Lists.{anyOf}
-use Rattle.rows.specs.Rows.{rowAt, rowsFrom}
-use Rattle.rows.specs.Good.{clash}
-use Rattle.rows.proofs.WalkLaws.{any-row-hit, any-row-skip, any-row-end}
+use Rattle.orders.specs.Entries.{entryAt, entriesFrom}
+use Rattle.orders.specs.Good.{clash}
+use Rattle.orders.proofs.WalkLaws.{any-row-hit, any-row-skip, any-row-end}
 use Rattle.good.proofs.clashes_behind.Statement.{statement}
 use Rattle.good.proofs.clashes_behind.Tie as tie
 
 abbrev Inv-loop : tie.InvT-loop
 Inv-loop rows i n j₀ j =
-    (j ≤ n) × (n ≡ length rows / 9) × (anyOf (clash (rowAt rows i)) (rowsFrom rows (i + 1) (n - (i + 1))) ≡ anyOf (clash (rowAt rows i)) (rowsFrom rows j (n - j)))
+    (j ≤ n) × (n ≡ length rows / 9) × (anyOf (clash (entryAt rows i)) (entriesFrom rows (i + 1) (n - (i + 1))) ≡ anyOf (clash (entryAt rows i)) (entriesFrom rows j (n - j)))
 
 abbrev μ-loop : tie.MeasureT-loop
 μ-loop rows i n j₀ j = n - j
@@ -32,7 +32,7 @@ returns : tie.Need-returns Inv-loop μ-loop
 returns c =
     let l = c .before .before .before in
     let a = l .before .before .args in
-    let f = clash (rowAt (now (a .rows)) (a .i)) in
+    let f = clash (entryAt (now (a .rows)) (a .i)) in
     sym (l .loop .inv .2 ∙ any-row-hit (now (a .rows)) (l .loop .j) _ f (c .before .before .loop-test .taken) (sym (c .before .clashes .ensures) ∙ c .if1 .taken))
 
 add-j-2 : tie.Need-add-j-2 Inv-loop μ-loop
@@ -45,7 +45,7 @@ loop-again : tie.Need-loop-again Inv-loop μ-loop
 loop-again c =
     let l = c .before .before .before in
     let a = l .before .before .args in
-    let f = clash (rowAt (now (a .rows)) (a .i)) in (
+    let f = clash (entryAt (now (a .rows)) (a .i)) in (
       search needs,
       refl,
       l .loop .inv .2 ∙ any-row-skip (now (a .rows)) (l .loop .j) _ f (c .before .before .loop-test .taken) (sym (c .before .clashes .ensures) ∙ c .if1 .left),
@@ -55,7 +55,7 @@ returns-2 : tie.Need-returns-2 Inv-loop μ-loop
 returns-2 c =
     let l = c .before in
     let a = l .before .before .args in
-    let f = clash (rowAt (now (a .rows)) (a .i)) in
+    let f = clash (entryAt (now (a .rows)) (a .i)) in
     sym (l .loop .inv .2 ∙ any-row-end (now (a .rows)) (l .loop .j) _ f (c .loop-test .left))
 
 pub clashes-behind-spec : {M : Type 1} → statement M

@@ -5,7 +5,7 @@ use native.Mathlib.Omega.{arith}
 use lib.ListN.{length}
 use denote.Ref.{now}
 use borrow.Author.Needs.{needs}
-use Rattle.rows.specs.Good.{goodb}
+use Rattle.orders.specs.Good.{goodb}
 use Rattle.good.specs.Scan.{restGood}
 use Rattle.good.proofs.ScanLaws.{bad-of-part, bad-of-many, good-of-rest, rest-end, rest-of-unnamed, rest-of-clash, rest-of-more}
 use Rattle.good.proofs.is_good.Statement.{statement}

@@ -1,8 +1,8 @@
 -- `lent::abort` meets its contract: it lends its table to `table::abort`.
 use mathlib.Core.List.{[], _∷_}
 use base.Logic.{id⊢}
-use Rattle.lending.proofs.Thin.{thin-spec}
-use Rattle.lending.proofs.Lend.{lend}
+use Rattle.thin.proofs.Thin.{thin-spec}
+use Rattle.thin.proofs.Lend.{lend}
 use Rattle.lent.proofs.Lent.{answered, number}
 use Rattle.table.proofs.abort as g
 use Rattle.table.proofs.abort.Symbol as g-def

@@ -1,8 +1,8 @@
 -- `lent::begin` meets its contract: it lends its table to `table::begin`.
 use mathlib.Core.List.{[], _∷_}
 use base.Logic.{id⊢}
-use Rattle.lending.proofs.Thin.{thin-spec}
-use Rattle.lending.proofs.Lend.{lend}
+use Rattle.thin.proofs.Thin.{thin-spec}
+use Rattle.thin.proofs.Lend.{lend}
 use Rattle.lent.proofs.Lent.{answered, byte}
 use Rattle.table.proofs.begin as g
 use Rattle.table.proofs.begin.Symbol as g-def

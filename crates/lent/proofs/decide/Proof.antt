@@ -1,8 +1,8 @@
 -- `lent::decide` meets its contract: it lends its table to `table::decide`.
 use mathlib.Core.List.{[], _∷_}
 use base.Logic.{id⊢}
-use Rattle.lending.proofs.Thin.{thin-spec}
-use Rattle.lending.proofs.Lend.{lend}
+use Rattle.thin.proofs.Thin.{thin-spec}
+use Rattle.thin.proofs.Lend.{lend}
 use Rattle.lent.proofs.Lent.{answered, number}
 use Rattle.table.proofs.decide as g
 use Rattle.table.proofs.decide.Symbol as g-def

@@ -1,8 +1,8 @@
 -- `lent::forget` meets its contract: it lends its table to `table::forget`.
 use mathlib.Core.List.{[], _∷_}
 use base.Logic.{id⊢}
-use Rattle.lending.proofs.Thin.{thin-spec}
-use Rattle.lending.proofs.Lend.{lend}
+use Rattle.thin.proofs.Thin.{thin-spec}
+use Rattle.thin.proofs.Lend.{lend}
 use Rattle.lent.proofs.Lent.{answered, number}
 use Rattle.table.proofs.forget as g
 use Rattle.table.proofs.forget.Symbol as g-def

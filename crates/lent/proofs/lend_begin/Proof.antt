@@ -1,8 +1,8 @@
 -- `lent::lend_begin` meets its contract: it lends its table to `begin`.
 use mathlib.Core.List.{[], _∷_}
 use base.Logic.{id⊢}
-use Rattle.lending.proofs.Thin.{thin-spec}
-use Rattle.lending.proofs.Take.{take}
+use Rattle.thin.proofs.Thin.{thin-spec}
+use Rattle.thin.proofs.Take.{take}
 use Rattle.lent.proofs.Lent.{answered, byte}
 use Rattle.lent.proofs.begin as g
 use Rattle.lent.proofs.begin.Symbol as g-def

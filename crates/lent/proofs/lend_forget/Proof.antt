@@ -1,8 +1,8 @@
 -- `lent::lend_forget` meets its contract: it lends its table to `forget`.
 use mathlib.Core.List.{[], _∷_}
 use base.Logic.{id⊢}
-use Rattle.lending.proofs.Thin.{thin-spec}
-use Rattle.lending.proofs.Take.{take}
+use Rattle.thin.proofs.Thin.{thin-spec}
+use Rattle.thin.proofs.Take.{take}
 use Rattle.lent.proofs.Lent.{answered, number}
 use Rattle.lent.proofs.forget as g
 use Rattle.lent.proofs.forget.Symbol as g-def

@@ -1,8 +1,8 @@
 -- `lent::lend_open_with` meets its contract: it lends its table to `open_with`.
 use mathlib.Core.List.{[], _∷_}
 use base.Logic.{id⊢}
-use Rattle.lending.proofs.Thin.{thin-spec}
-use Rattle.lending.proofs.Take.{take}
+use Rattle.thin.proofs.Thin.{thin-spec}
+use Rattle.thin.proofs.Take.{take}
 use Rattle.lent.proofs.Lent.{answered, number, floors}
 use Rattle.lent.proofs.open_with as g
 use Rattle.lent.proofs.open_with.Symbol as g-def

@@ -1,8 +1,8 @@
 -- `lent::lend_report_prepared` meets its contract: it lends its table to `report_prepared`.
 use mathlib.Core.List.{[], _∷_}
 use base.Logic.{id⊢}
-use Rattle.lending.proofs.Thin.{thin-spec}
-use Rattle.lending.proofs.Take.{take}
+use Rattle.thin.proofs.Thin.{thin-spec}
+use Rattle.thin.proofs.Take.{take}
 use Rattle.lent.proofs.Lent.{answered, number, byte}
 use Rattle.lent.proofs.report_prepared as g
 use Rattle.lent.proofs.report_prepared.Symbol as g-def

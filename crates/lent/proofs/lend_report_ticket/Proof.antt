@@ -1,8 +1,8 @@
 -- `lent::lend_report_ticket` meets its contract: it lends its table to `report_ticket`.
 use mathlib.Core.List.{[], _∷_}
 use base.Logic.{id⊢}
-use Rattle.lending.proofs.Thin.{thin-spec}
-use Rattle.lending.proofs.Take.{take}
+use Rattle.thin.proofs.Thin.{thin-spec}
+use Rattle.thin.proofs.Take.{take}
 use Rattle.lent.proofs.Lent.{answered, number, byte, ticket}
 use Rattle.lent.proofs.report_ticket as g
 use Rattle.lent.proofs.report_ticket.Symbol as g-def

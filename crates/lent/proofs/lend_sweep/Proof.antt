@@ -1,8 +1,8 @@
 -- `lent::lend_sweep` meets its contract: it lends its table to `sweep`.
 use mathlib.Core.List.{[]}
 use base.Logic.{id⊢}
-use Rattle.lending.proofs.Thin.{thin-spec}
-use Rattle.lending.proofs.Take.{take}
+use Rattle.thin.proofs.Thin.{thin-spec}
+use Rattle.thin.proofs.Take.{take}
 use Rattle.lent.proofs.Lent.{answered}
 use Rattle.lent.proofs.sweep as g
 use Rattle.lent.proofs.sweep.Symbol as g-def

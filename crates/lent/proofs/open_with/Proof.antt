@@ -1,8 +1,8 @@
 -- `lent::open_with` meets its contract: it lends its table to `table::open_with`.
 use mathlib.Core.List.{[], _∷_}
 use base.Logic.{id⊢}
-use Rattle.lending.proofs.Thin.{thin-spec}
-use Rattle.lending.proofs.Lend.{lend}
+use Rattle.thin.proofs.Thin.{thin-spec}
+use Rattle.thin.proofs.Lend.{lend}
 use Rattle.lent.proofs.Lent.{answered, number, floors}
 use Rattle.table.proofs.open_with as g
 use Rattle.table.proofs.open_with.Symbol as g-def

@@ -1,8 +1,8 @@
 -- `lent::report_ticket` meets its contract: it lends its table to `table::report_ticket`.
 use mathlib.Core.List.{[], _∷_}
 use base.Logic.{id⊢}
-use Rattle.lending.proofs.Thin.{thin-spec}
-use Rattle.lending.proofs.Lend.{lend}
+use Rattle.thin.proofs.Thin.{thin-spec}
+use Rattle.thin.proofs.Lend.{lend}
 use Rattle.lent.proofs.Lent.{answered, number, byte, ticket}
 use Rattle.table.proofs.report_ticket as g
 use Rattle.table.proofs.report_ticket.Symbol as g-def

@@ -1,8 +1,8 @@
 -- `lent::sweep` meets its contract: it lends its table to `table::sweep`.
 use mathlib.Core.List.{[]}
 use base.Logic.{id⊢}
-use Rattle.lending.proofs.Thin.{thin-spec}
-use Rattle.lending.proofs.Lend.{lend}
+use Rattle.thin.proofs.Thin.{thin-spec}
+use Rattle.thin.proofs.Lend.{lend}
 use Rattle.lent.proofs.Lent.{answered}
 use Rattle.table.proofs.sweep as g
 use Rattle.table.proofs.sweep.Symbol as g-def

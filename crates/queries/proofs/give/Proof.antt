@@ -1,7 +1,7 @@
 -- `queries::give` meets its contract: whatever the writer answered to the kept rows, that is said. Assumes nothing.
 use borrow.Author.Needs.{needs}
 use Rattle.method.specs.Slots.{keptFlat}
-use Rattle.rows.specs.Reply.{writeReply}
+use Rattle.orders.specs.Reply.{writeReply}
 use Rattle.queries.proofs.AnswerLaws.{order-spoken, open-spoken}
 use Rattle.queries.proofs.give.Statement.{statement}
 use Rattle.queries.proofs.give.Tie as tie

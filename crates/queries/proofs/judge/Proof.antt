@@ -1,7 +1,7 @@
 -- `queries::judge` meets its contract: whatever the check answered to the kept rows, that is said. Assumes nothing.
 use mathlib.Core.Path.{ap, _∙_}
 use Rattle.method.specs.Slots.{keptFlat}
-use Rattle.rows.specs.Reply.{checkReply}
+use Rattle.orders.specs.Reply.{checkReply}
 use Rattle.queries.specs.Said.{spokenOf}
 use Rattle.queries.proofs.AnswerLaws.{proposal-line, open-spoken}
 use Rattle.queries.proofs.judge.Statement.{statement}

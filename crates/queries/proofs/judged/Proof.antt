@@ -1,6 +1,6 @@
 -- `queries::judged` meets its contract: each answer of the check has its own word. Assumes nothing.
 use mathlib.Core.Path.{sym, ap}
-use Rattle.rows.specs.Reply.{checkReply}
+use Rattle.orders.specs.Reply.{checkReply}
 use Rattle.queries.specs.Said.{replySaid}
 use Rattle.queries.proofs.judged.Statement.{statement}
 use Rattle.queries.proofs.judged.Tie as tie

@@ -1,6 +1,6 @@
 -- `queries::written` meets its contract: each answer of the writer has its own word. Assumes nothing.
 use mathlib.Core.Path.{sym, ap}
-use Rattle.rows.specs.Reply.{writeReply}
+use Rattle.orders.specs.Reply.{writeReply}
 use Rattle.queries.specs.Said.{replySaid}
 use Rattle.queries.proofs.written.Statement.{statement}
 use Rattle.queries.proofs.written.Tie as tie

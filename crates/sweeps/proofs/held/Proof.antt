@@ -6,8 +6,8 @@ use Prim.Native.Nat.{_-_, _<_}
 use native.Mathlib.Omega.{arith}
 use lib.ListN.{getD-replicate}
 use borrow.Author.Needs.{needs}
-use Rattle.square.specs.Passed.{Passed}
-use Rattle.square.proofs.PassedLaws.{passed-none, passed-kept, passed-set, done-of-all}
+use Rattle.paths.specs.Passed.{Passed}
+use Rattle.paths.proofs.PassedLaws.{passed-none, passed-kept, passed-set, done-of-all}
 use Rattle.method.specs.Records.{committed, rowAt}
 use Rattle.method.specs.Conditions.{heldBack}
 use Rattle.sweeps.proofs.held.Statement.{statement}

@@ -7,8 +7,8 @@ use lib.ListN.{length}
 use borrow.Author.Needs.{needs}
 use borrow.Author.Tests.{not-true, not-false, leb-true, leb-false}
 use Rattle.endian.proofs.PartLaws.{part-is, part-put, laid-of-part}
-use Rattle.rows.specs.Good.{goodb}
-use Rattle.rows.proofs.GoodLaws.{goodb→good}
+use Rattle.orders.specs.Good.{goodb}
+use Rattle.orders.proofs.GoodLaws.{goodb→good}
 use Rattle.writer.proofs.WriterLaws.{leaves-bad, leaves-no-room, leaves-short, leaves-full}
 use Rattle.writer.proofs.write.Statement.{statement}
 use Rattle.writer.proofs.write.Tie as tie

@@ -7,17 +7,17 @@ use lib.ListN.{length}
 use denote.Ref.{now}
 use borrow.Author.Needs.{needs}
 use Rattle.graph.specs.Lists.{anyOf}
-use Rattle.rows.specs.Rows.{Row, rowsFrom, rowsOf}
-use Rattle.rows.proofs.WalkLaws.{any-row-start, any-row-hit, any-row-skip, any-row-end}
+use Rattle.orders.specs.Entries.{Entry, entriesFrom, entriesIn}
+use Rattle.orders.proofs.WalkLaws.{any-row-start, any-row-hit, any-row-skip, any-row-end}
 use Rattle.checker.specs.Places.{fitting}
 use Rattle.checker.proofs.places.has_fit.Statement.{statement}
 use Rattle.checker.proofs.places.has_fit.Tie as tie
 
-abbrev test : List ℕ → List ℕ → ℕ → Row → Bool
-test rows before n = fitting (rowsOf rows) before n
+abbrev test : List ℕ → List ℕ → ℕ → Entry → Bool
+test rows before n = fitting (entriesIn rows) before n
 
 abbrev Inv-loop : tie.InvT-loop
-Inv-loop rows before n m i₀ i = (i ≤ m) × (m ≡ length rows / 9) × (anyOf (test rows before n) (rowsOf rows) ≡ anyOf (test rows before n) (rowsFrom rows i (m - i)))
+Inv-loop rows before n m i₀ i = (i ≤ m) × (m ≡ length rows / 9) × (anyOf (test rows before n) (entriesIn rows) ≡ anyOf (test rows before n) (entriesFrom rows i (m - i)))
 
 abbrev μ-loop : tie.MeasureT-loop
 μ-loop rows before n m i₀ i = m - i

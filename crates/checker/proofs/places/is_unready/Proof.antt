@@ -7,17 +7,17 @@ use lib.ListN.{length}
 use denote.Ref.{now}
 use borrow.Author.Needs.{needs}
 use Rattle.graph.specs.Lists.{anyOf}
-use Rattle.rows.specs.Rows.{Row, rowAt, rowsFrom, rowsOf}
-use Rattle.rows.proofs.WalkLaws.{any-row-start, any-row-hit, any-row-skip, any-row-end}
+use Rattle.orders.specs.Entries.{Entry, entryAt, entriesFrom, entriesIn}
+use Rattle.orders.proofs.WalkLaws.{any-row-start, any-row-hit, any-row-skip, any-row-end}
 use Rattle.checker.specs.Places.{holdsUp}
 use Rattle.checker.proofs.places.is_unready.Statement.{statement}
 use Rattle.checker.proofs.places.is_unready.Tie as tie
 
-abbrev test : List ℕ → List ℕ → ℕ → Row → Bool
-test rows before i = holdsUp before (rowAt rows i)
+abbrev test : List ℕ → List ℕ → ℕ → Entry → Bool
+test rows before i = holdsUp before (entryAt rows i)
 
 abbrev Inv-loop : tie.InvT-loop
-Inv-loop rows before i n j₀ j = (j ≤ n) × (n ≡ length rows / 9) × (anyOf (test rows before i) (rowsOf rows) ≡ anyOf (test rows before i) (rowsFrom rows j (n - j)))
+Inv-loop rows before i n j₀ j = (j ≤ n) × (n ≡ length rows / 9) × (anyOf (test rows before i) (entriesIn rows) ≡ anyOf (test rows before i) (entriesFrom rows j (n - j)))
 
 abbrev μ-loop : tie.MeasureT-loop
 μ-loop rows before i n j₀ j = n - j

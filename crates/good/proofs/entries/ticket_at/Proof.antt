@@ -3,7 +3,7 @@ use mathlib.Core.Path.{sym}
 use native.Mathlib.Omega.{arith}
 use borrow.Author.Needs.{needs}
 use denote.Ref.{now}
-use Rattle.rows.proofs.RowsLaws.{ticket-rowAt}
+use Rattle.orders.proofs.EntriesLaws.{ticket-entryAt}
 use Rattle.good.proofs.entries.ticket_at.Statement.{statement}
 use Rattle.good.proofs.entries.ticket_at.Tie as tie
 
@@ -23,7 +23,7 @@ shared-slice-read-result : tie.Need-shared-slice-read-result
 shared-slice-read-result c = search needs
 
 returns : tie.Need-returns
-returns c = let a = c .before .args in sym (ticket-rowAt (now (a .rows)) (a .i) (a .s) (omega arith))
+returns c = let a = c .before .args in sym (ticket-entryAt (now (a .rows)) (a .i) (a .s) (omega arith))
 
 pub ticket-at-spec : {M : Type 1} → statement M
 ticket-at-spec = tie.close (tie.spec mul-result add-result add-result-2 mul-result-2 shared-slice-read-result returns)

@@ -5,8 +5,8 @@ use native.Mathlib.Omega.{arith}
 use lib.ListN.{length, take, length-set}
 use borrow.Author.Needs.{needs}
 use Rattle.graph.specs.Order.{greedy}
-use Rattle.rows.specs.Rows.{numberOf, rowArrowb, rowsOf}
-use Rattle.rows.specs.Good.{GoodRows}
+use Rattle.orders.specs.Entries.{numberOf, entryArrowb, entriesIn}
+use Rattle.orders.specs.Good.{GoodRows}
 use Rattle.writer.specs.Picks.{Placing, PickedOrder}
 use Rattle.writer.proofs.PlacingLaws.{placing-none, placing-more, order-of-stuck, order-of-all}
 use Rattle.writer.proofs.picks.pick.Statement.{statement}
@@ -26,7 +26,7 @@ next-row-requires : tie.Need-next-row-requires Inv-loop μ-loop
 next-row-requires c κs = c .before .loop .inv .4 .few
 
 -- what is picked where the loop stops
-picked : (l : tie.At-loop Inv-loop μ-loop) → take (l .loop .k) (l .loop .numbers) ≡ greedy rowArrowb numberOf (rowsOf (l .before .before .args .rows .now))
+picked : (l : tie.At-loop Inv-loop μ-loop) → take (l .loop .k) (l .loop .numbers) ≡ greedy entryArrowb numberOf (entriesIn (l .before .before .args .rows .now))
     → PickedOrder (l .before .before .args .rows .now) (l .loop .numbers) (l .loop .k)
 picked l e = record { size = l .loop .inv .2; within = omega (arith, l .loop .inv .4 .few); order = e }
 

@@ -1,0 +1,17 @@
+-- `blockers::is_older` meets its contract. Assumes nothing.
+use mathlib.Core.Path.{sym, _∙_}
+use borrow.Author.Needs.{needs}
+use Rattle.blockers.proofs.is_older.Statement.{statement}
+use Rattle.blockers.proofs.is_older.Tie as tie
+
+is-active-requires : tie.Need-is-active-requires
+is-active-requires c κs = search needs
+
+returns : tie.Need-returns
+returns c = sym (rw (sym (c .before .before .before .before .before .is-active .ensures) ∙ c .before .before .before .before .if1 .taken))
+
+returns-2 : tie.Need-returns-2
+returns-2 c = search needs
+
+pub is-older-spec : {M : Type 1} → statement M
+is-older-spec = tie.close (tie.spec is-active-requires returns returns-2)

@@ -1,0 +1,11 @@
+pub mod ArrowLaws
+pub mod EntriesLaws
+pub mod GoodLaws
+pub mod JudgedLaws
+pub mod OrderLaws
+pub mod WriteLaws
+pub mod CCallLaws
+pub mod WalkLaws
+pub mod ReplyLaws
+pub mod JudgedIffLaws
+pub mod WriteIffLaws

@@ -1,0 +1,28 @@
+-- `parts::is_ready` meets its contract. Assumes nothing.
+use mathlib.Core.Path.{sym, _∙_}
+use borrow.Author.Needs.{needs}
+use borrow.Author.Tests.{not-false}
+use Rattle.parts.proofs.ReadyLaws.{ready-of-counts}
+use Rattle.parts.proofs.is_ready.Statement.{statement}
+use Rattle.parts.proofs.is_ready.Tie as tie
+
+is-active-requires : tie.Need-is-active-requires
+is-active-requires c κs = search needs
+
+returns : tie.Need-returns
+returns c = sym (rw (sym (c .before .is-active .ensures), c .if1 .taken))
+
+prepared-sites-requires : tie.Need-prepared-sites-requires
+prepared-sites-requires c κs = search needs
+
+used-requires : tie.Need-used-requires
+used-requires c κs = search needs
+
+returns-2 : tie.Need-returns-2
+returns-2 c =
+    let r = c .before .before .before .before .args .row in
+    rw (c .before .prepared-sites .ensures, c .used .ensures)
+    (ready-of-counts r (sym (c .before .before .before .is-active .ensures) ∙ not-false _ (c .before .before .if1 .left)))
+
+pub is-ready-spec : {M : Type 1} → statement M
+is-ready-spec = tie.close (tie.spec is-active-requires returns prepared-sites-requires used-requires returns-2)

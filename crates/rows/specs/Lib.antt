@@ -1,8 +1,0 @@
-pub mod Arrow
-pub mod Rows
-pub mod Good
-pub mod Judged
-pub mod Reply
-pub mod Order
-pub mod Write
-pub mod CCall

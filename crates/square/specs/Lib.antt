@@ -1,4 +1,0 @@
-pub mod Square
-pub mod Entries
-pub mod Passed
-pub mod Slotted
