@@ -1,6 +1,7 @@
 pub mod Records
 pub mod Stages
 pub mod Slots
+pub mod Seen
 pub mod Conditions
 pub mod Calls
 pub mod Effects

@@ -16,8 +16,8 @@ use Rattle.method.specs.Slots.{keptEntries, keptFlat}
 use Rattle.method.specs.Calls.Call.{openWith, begin, reportTicket, reportPrepared, abort, decide, forget, sweep}
 use Rattle.runs.specs.Run.{Run, Run.call, after}
 use Rattle.runs.specs.History.{history}
-use Rattle.runs.proofs.InvariantLaws.{invariant-run}
-use Rattle.runs.proofs.KeptLaws.{rows-of-kept, kept-good, kept-ordered}
+use Rattle.runs.proofs.HistoryLaws.{invariant-run}
+use Rattle.invariant.proofs.KeptLaws.{rows-of-kept, kept-good, kept-ordered}
 use Rattle.replies.specs.Desk.{desk, deskRead, deskBody}
 use Rattle.turns.specs.Lines.{linesOf}
 use Rattle.replies.proofs.OrderedLaws.{body-low}

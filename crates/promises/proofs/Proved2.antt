@@ -38,13 +38,13 @@ use Rattle.method.proofs.GraphLaws.{stays-iff}
 use Rattle.method.proofs.CallLaws.{Steps, Steps.stopped, Steps.passed, step-goes, done-exactly}
 use Rattle.runs.specs.Run.{after}
 use Rattle.runs.specs.History.{history}
-use Rattle.runs.proofs.KnownLaws.{found, changed}
-use Rattle.runs.proofs.ChangeLaws.{there}
-use Rattle.runs.proofs.InvariantLaws.{invariant-run}
+use Rattle.invariant.proofs.KnownLaws.{found, changed}
+use Rattle.invariant.proofs.ChangeLaws.{there}
+use Rattle.runs.proofs.HistoryLaws.{invariant-run}
 use Rattle.runs.proofs.FollowLaws.{follows as run-follows, active-iff-begun, kept-iff-committed}
 use Rattle.runs.proofs.PlacedLaws.{placed}
 use Rattle.runs.proofs.PaperLaws.{forget-done-iff, forgotten-iff-paper}
-use Rattle.runs.proofs.SweepLaws.{kept-of-slot, slot-goes, slot-stays, slot-other}
+use Rattle.invariant.proofs.SweepLaws.{kept-of-slot, slot-goes, slot-stays, slot-other}
 use Rattle.runs.proofs.ExactlyLaws.{commits-exactly as step-decides, Decision.commits as no-cycle, Decision.cycles as a-cycle, sweep-counts}
 use Rattle.runs.proofs.ForgetAllLaws.{forget-all}
 use Rattle.runs.proofs.NoneToForgetLaws.{none-to-forget}

@@ -19,7 +19,7 @@ use Rattle.orders.proofs.CCallLaws.{call-result}
 use Rattle.method.proofs.RecordLaws.{never}
 use Rattle.frames.specs.Stream.{streamOf}
 use Rattle.runs.specs.Run.{Run.start, after}
-use Rattle.runs.proofs.InvariantLaws.{history-apart, history-ordered}
+use Rattle.runs.proofs.HistoryLaws.{history-apart, history-ordered}
 use Rattle.runs.proofs.ReportedLaws.{history-commits, history-reported}
 use Rattle.promises.specs.Demand3.{OrderCheck, CCall, OrderWriter, History, KeptRows, NeverInStream}
 use Rattle.orders.proofs.WriteIffLaws.{bad-written, no-room-written, no-order-written, wrote-written, written-of-order}

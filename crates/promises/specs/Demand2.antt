@@ -18,7 +18,8 @@ use Rattle.method.specs.Slots.{slotOf, rowOfNumber, kept}
 use Rattle.method.specs.Conditions.{Closed, Unknown, NotReady, HasPred, HeldBack}
 use Rattle.method.specs.Calls.Call.{decide, forget, sweep}
 use Rattle.method.specs.Effects.{step}
-use Rattle.runs.specs.Run.{Run, after, answerTo, Happened, Active, Kept, Commits, CommitsBeside, Over, BegunIn}
+use Rattle.method.specs.Seen.{Active, Kept}
+use Rattle.runs.specs.Run.{Run, after, answerTo, Happened, Commits, CommitsBeside, Over, BegunIn}
 use Rattle.runs.specs.Follows.{Follows}
 use Rattle.runs.specs.Placed.{Placed}
 use Rattle.runs.specs.Sweeps.{freeSlots, ForgetAll, NoneToForget}

@@ -15,12 +15,12 @@ use Rattle.method.specs.Calls.{Call}
 use Rattle.method.specs.Calls.Call.{begin, decide, sweep}
 use Rattle.method.specs.Effects.{newRow, reported, committedRow, step}
 use Rattle.method.proofs.RecordLaws.{never}
-use Rattle.runs.specs.Run.{Run, Run.start, Run.call, after, answerTo, Happened, Active, Commits, CommitsBeside}
+use Rattle.method.specs.Seen.{Active, IsFree, IsActive, IsCommitted, num}
+use Rattle.runs.specs.Run.{Run, Run.start, Run.call, after, answerTo, Happened, Commits, CommitsBeside}
 use Rattle.runs.specs.History.{history}
-use Rattle.runs.specs.Sound.{IsFree, IsActive, IsCommitted, num}
-use Rattle.runs.proofs.ChangeLaws.{Changed, both, not-committed, not-free}
-use Rattle.runs.proofs.OpenLaws.{invariant-closed, free-after-open}
-use Rattle.runs.proofs.InvariantLaws.{invariant-run}
+use Rattle.invariant.proofs.ChangeLaws.{Changed, both, not-committed, not-free}
+use Rattle.invariant.proofs.OpenLaws.{invariant-closed, free-after-open}
+use Rattle.runs.proofs.HistoryLaws.{invariant-run}
 use Rattle.runs.proofs.StepLaws.{Change, Change.refuses, Change.opens, Change.begins, Change.tickets, Change.prepares, Change.commits, Change.frees, Change.sweeps}
 use Rattle.runs.proofs.CensusLaws.{closed-free, one-slot, last-grows}
 use Rattle.runs.proofs.PresentLaws.{change-of-run}

@@ -18,15 +18,15 @@ use Rattle.method.specs.Calls.{Call}
 use Rattle.method.specs.Calls.Call.{abort, forget, sweep}
 use Rattle.method.specs.Effects.{opened, newRow, reported, committedRow, step}
 use Rattle.method.proofs.RecordLaws.{never}
-use Rattle.runs.specs.Run.{Run, Run.start, Run.call, after, Happened, Known, Begins, Aborts, Forgets, Over, BegunIn}
+use Rattle.method.specs.Seen.{Known, IsFree, num}
+use Rattle.runs.specs.Run.{Run, Run.start, Run.call, after, Happened, Begins, Aborts, Forgets, Over, BegunIn}
 use Rattle.runs.specs.History.{history}
-use Rattle.runs.specs.Sound.{IsFree, num}
-use Rattle.runs.specs.Invariant.{Invariant}
-use Rattle.runs.proofs.ChangeLaws.{Changed, every, there, not-free}
-use Rattle.runs.proofs.OpenLaws.{free-after-open}
-use Rattle.runs.proofs.InvariantLaws.{invariant-run}
+use Rattle.invariant.specs.Invariant.{Invariant}
+use Rattle.invariant.proofs.ChangeLaws.{Changed, every, there, not-free}
+use Rattle.invariant.proofs.OpenLaws.{free-after-open}
+use Rattle.runs.proofs.HistoryLaws.{invariant-run}
 use Rattle.runs.proofs.StepLaws.{Change, Change.refuses, Change.opens, Change.begins, Change.tickets, Change.prepares, Change.commits, Change.frees, Change.sweeps, Same, change-of-step}
-use Rattle.runs.proofs.KnownLaws.{known-or-not}
+use Rattle.invariant.proofs.KnownLaws.{known-or-not}
 
 -- a changed slot and the numbers that the table knows
 module _ (t u : Table) (i : ℕ) (q : Row) (ch : Changed (rowAt t) i q (rowAt u)) where

@@ -22,10 +22,11 @@ use Rattle.method.specs.Calls.Call.{openWith, decide}
 use Rattle.method.specs.Effects.{padded, opened, step}
 use Rattle.method.proofs.RecordLaws.{never}
 use Rattle.runs.specs.Run.{Run, Run.start, Run.call, after, answerTo, Happened, Opens, isBegun, begins as begunSoFar}
-use Rattle.runs.specs.History.{history, noted}
-use Rattle.runs.specs.Sound.{Has, tick}
+use Rattle.invariant.specs.Noted.{noted}
+use Rattle.runs.specs.History.{history}
+use Rattle.method.specs.Seen.{Has, tick}
 use Rattle.runs.specs.Follows.{Greatest}
-use Rattle.runs.proofs.InvariantLaws.{invariant-run}
+use Rattle.runs.proofs.HistoryLaws.{invariant-run}
 use Rattle.runs.proofs.StepLaws.{Change, Change.refuses, Change.opens, Change.begins, Change.tickets, Change.prepares, Change.commits, Change.frees, Change.sweeps}
 use Rattle.runs.proofs.CensusLaws.{refused-of-closed}
 use Rattle.runs.proofs.PresentLaws.{change-of-run}

@@ -32,8 +32,8 @@ use Rattle.method.proofs.RecordLaws.{never, free-iff, committed-iff}
 use Rattle.method.proofs.CallLaws.{done-exactly, refused-exactly}
 use Rattle.method.proofs.GraphLaws.{no-cycle-iff, stays-iff}
 use Rattle.runs.specs.Sweeps.{freeSlots}
-use Rattle.runs.specs.Sound.{IsFree, IsCommitted}
-use Rattle.runs.proofs.SweepLaws.{kept-of-slot, slot-goes, slot-stays, slot-other}
+use Rattle.method.specs.Seen.{IsFree, IsCommitted}
+use Rattle.invariant.proofs.SweepLaws.{kept-of-slot, slot-goes, slot-stays, slot-other}
 
 -- a decision that nothing refuses
 module _ (t : Table) (n : ℕ) (ok : NoneHolds (rules t (decide n))) where

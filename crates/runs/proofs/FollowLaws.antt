@@ -12,12 +12,12 @@ use Rattle.method.specs.Slots.{activeRows}
 use Rattle.method.specs.Conditions.{HeldBack, Unknown}
 use Rattle.method.proofs.RecordLaws.{never, active-iff}
 use Rattle.method.proofs.SlotLaws.{kept-of-place, place-of-kept}
-use Rattle.runs.specs.Run.{Run, after, Happened, Known, Active, Kept, Commits, CommitsBeside, Over, BegunIn}
-use Rattle.runs.specs.Sound.{IsFree, IsActive, IsCommitted, num}
+use Rattle.method.specs.Seen.{Known, Active, Kept, IsFree, IsActive, IsCommitted, num}
+use Rattle.runs.specs.Run.{Run, after, Happened, Commits, CommitsBeside, Over, BegunIn}
 use Rattle.runs.specs.Follows.{Follows}
-use Rattle.runs.proofs.ChangeLaws.{not-committed, not-free}
-use Rattle.runs.proofs.InvariantLaws.{invariant-run}
-use Rattle.runs.proofs.KnownLaws.{known-iff, unknown-of-not-known}
+use Rattle.invariant.proofs.ChangeLaws.{not-committed, not-free}
+use Rattle.runs.proofs.HistoryLaws.{invariant-run}
+use Rattle.invariant.proofs.KnownLaws.{known-iff, unknown-of-not-known}
 use Rattle.runs.proofs.PresentLaws.{census, begun-or-not}
 use Rattle.runs.proofs.RowsFollowLaws.{rows-follow-run, begun-of-commit}
 use Rattle.runs.proofs.CountLaws.{counts}

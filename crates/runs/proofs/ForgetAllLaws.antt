@@ -36,14 +36,14 @@ use Rattle.method.proofs.RecordLaws.{never, free-iff, active-iff, committed-iff
 use Rattle.method.proofs.ConditionLaws.{goes-iff}
 use Rattle.method.proofs.SlotLaws.{place-of-kept, kept-of-place}
 use Rattle.method.proofs.GraphLaws.{stays-iff}
-use Rattle.runs.specs.Sound.{IsFree, IsActive, IsCommitted, num}
-use Rattle.runs.specs.Invariant.{Invariant}
+use Rattle.method.specs.Seen.{IsFree, IsActive, IsCommitted, num}
+use Rattle.invariant.specs.Invariant.{Invariant}
 use Rattle.runs.specs.Sweeps.{freeSlots, ForgetAll, NoneToForget}
-use Rattle.runs.proofs.ChangeLaws.{Changed}
-use Rattle.runs.proofs.KnownLaws.{Found, found, known-iff, changed, slot-of-used}
-use Rattle.runs.proofs.DropLaws.{invariant-forget}
-use Rattle.runs.proofs.SweepLaws.{kept-of-slot, slot-goes, slot-stays, slot-other, free-of-hold, no-arrow-in}
-use Rattle.runs.proofs.KeptLaws.{kept-apart, kept-ordered}
+use Rattle.invariant.proofs.ChangeLaws.{Changed}
+use Rattle.invariant.proofs.KnownLaws.{Found, found, known-iff, changed, slot-of-used}
+use Rattle.invariant.proofs.DropLaws.{invariant-forget}
+use Rattle.invariant.proofs.SweepLaws.{kept-of-slot, slot-goes, slot-stays, slot-other, free-of-hold, no-arrow-in}
+use Rattle.invariant.proofs.KeptLaws.{kept-apart, kept-ordered}
 use Rattle.runs.proofs.CensusLaws.{one-slot}
 use Rattle.runs.proofs.ExactlyLaws.{forgets-exactly, sweep-counts}
 

@@ -23,10 +23,10 @@ use Rattle.method.proofs.RecordLaws.{never, active-iff, committed-iff}
 use Rattle.method.proofs.CallLaws.{Steps, Steps.stopped, Steps.passed, step-goes}
 use Rattle.method.proofs.SlotLaws.{place-of-kept, kept-of-place}
 use Rattle.method.proofs.GraphLaws.{stays-iff}
-use Rattle.runs.specs.Sound.{IsActive, IsCommitted}
+use Rattle.method.specs.Seen.{IsActive, IsCommitted}
 use Rattle.runs.specs.Sweeps.{NoneToForget}
-use Rattle.runs.proofs.ChangeLaws.{not-committed}
-use Rattle.runs.proofs.SweepLaws.{kept-of-slot, slot-goes, slot-stays, slot-other}
+use Rattle.invariant.proofs.ChangeLaws.{not-committed}
+use Rattle.invariant.proofs.SweepLaws.{kept-of-slot, slot-goes, slot-stays, slot-other}
 
 module _ (t : Table) where
   abbrev w : Table

@@ -17,12 +17,12 @@ use Rattle.method.specs.Calls.Call.{forget, sweep}
 use Rattle.method.specs.Effects.{step}
 use Rattle.method.proofs.RecordLaws.{never}
 use Rattle.method.proofs.CallLaws.{Steps, Steps.stopped, Steps.passed, step-goes}
-use Rattle.runs.specs.Run.{Run, after, answerTo, Happened, Known, Active, Kept, Commits, CommitsBeside, Over}
+use Rattle.method.specs.Seen.{Known, Active, Kept, IsFree, IsCommitted}
+use Rattle.runs.specs.Run.{Run, after, answerTo, Happened, Commits, CommitsBeside, Over}
 use Rattle.runs.specs.History.{history}
-use Rattle.runs.specs.Sound.{IsFree, IsCommitted}
-use Rattle.runs.proofs.ChangeLaws.{not-free}
-use Rattle.runs.proofs.InvariantLaws.{invariant-run}
-use Rattle.runs.proofs.KnownLaws.{found, known-iff}
+use Rattle.invariant.proofs.ChangeLaws.{not-free}
+use Rattle.runs.proofs.HistoryLaws.{invariant-run}
+use Rattle.invariant.proofs.KnownLaws.{found, known-iff}
 use Rattle.runs.proofs.CensusLaws.{one-slot, closed-free}
 use Rattle.runs.proofs.PresentLaws.{census}
 use Rattle.runs.proofs.RowsFollowLaws.{rows-follow-run, begun-of-happened}

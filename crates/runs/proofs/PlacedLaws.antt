@@ -22,13 +22,13 @@ use Rattle.method.proofs.SlotLaws.{first-lowest}
 use Rattle.method.proofs.CallLaws.{Steps, Steps.stopped, Steps.passed, step-goes}
 use Rattle.runs.specs.Run.{Run, after, answerTo, Begins}
 use Rattle.runs.specs.History.{history}
-use Rattle.runs.specs.Sound.{IsFree, num}
-use Rattle.runs.specs.Invariant.{Invariant}
+use Rattle.method.specs.Seen.{IsFree, num}
+use Rattle.invariant.specs.Invariant.{Invariant}
 use Rattle.runs.specs.Placed.{Lowest, Placed}
-use Rattle.runs.proofs.ChangeLaws.{not-free}
-use Rattle.runs.proofs.KnownLaws.{changed}
-use Rattle.runs.proofs.OpenLaws.{begin-slot, free-after-open}
-use Rattle.runs.proofs.InvariantLaws.{invariant-run}
+use Rattle.invariant.proofs.ChangeLaws.{not-free}
+use Rattle.invariant.proofs.KnownLaws.{changed}
+use Rattle.invariant.proofs.OpenLaws.{begin-slot, free-after-open}
+use Rattle.runs.proofs.HistoryLaws.{invariant-run}
 use Rattle.runs.proofs.PresentLaws.{change-of-run}
 use Rattle.runs.proofs.StepLaws.{Change, Change.refuses, Change.opens, Change.begins, Change.tickets, Change.prepares, Change.commits, Change.frees, Change.sweeps}
 

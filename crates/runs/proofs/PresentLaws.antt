@@ -14,11 +14,12 @@ use Rattle.method.specs.Calls.{Call}
 use Rattle.method.specs.Calls.Call.{openWith, begin, reportTicket, reportPrepared, abort, decide, forget, sweep}
 use Rattle.method.specs.Effects.{step}
 use Rattle.method.proofs.RecordLaws.{never}
-use Rattle.runs.specs.Run.{Run, Run.start, Run.call, after, answerTo, Happened, Known, Begins, Aborts, Forgets, Over, BegunIn}
+use Rattle.method.specs.Seen.{Known}
+use Rattle.runs.specs.Run.{Run, Run.start, Run.call, after, answerTo, Happened, Begins, Aborts, Forgets, Over, BegunIn}
 use Rattle.runs.specs.History.{history}
-use Rattle.runs.specs.Invariant.{Invariant}
-use Rattle.runs.proofs.OpenLaws.{invariant-closed}
-use Rattle.runs.proofs.InvariantLaws.{invariant-run}
+use Rattle.invariant.specs.Invariant.{Invariant}
+use Rattle.invariant.proofs.OpenLaws.{invariant-closed}
+use Rattle.runs.proofs.HistoryLaws.{invariant-run}
 use Rattle.runs.proofs.StepLaws.{Change, change-of-step}
 use Rattle.runs.proofs.CensusLaws.{closed-free, known-forth, known-back, known-of-leaves, begins-next, last-grows, refused-of-closed}
 

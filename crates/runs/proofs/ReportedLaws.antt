@@ -15,9 +15,10 @@ use Rattle.method.specs.Calls.Call.{reportTicket, decide}
 use Rattle.method.specs.Effects.{step}
 use Rattle.method.proofs.RecordLaws.{never}
 use Rattle.runs.specs.Run.{Run, Run.start, Run.call, after, answerTo, Happened, TakesTicket, Commits}
-use Rattle.runs.specs.History.{noted, history}
-use Rattle.runs.specs.Sound.{IsActive, num}
-use Rattle.runs.proofs.ChangeLaws.{not-committed, not-free}
+use Rattle.invariant.specs.Noted.{noted}
+use Rattle.runs.specs.History.{history}
+use Rattle.method.specs.Seen.{IsActive, num}
+use Rattle.invariant.proofs.ChangeLaws.{not-committed, not-free}
 use Rattle.runs.proofs.PresentLaws.{change-of-run}
 use Rattle.runs.proofs.RowFollowLaws.{later-iff}
 use Rattle.runs.proofs.RowsFollowLaws.{rows-follow-run}

@@ -22,10 +22,10 @@ use Rattle.method.specs.Calls.Call.{begin, reportTicket, reportPrepared, decide
 use Rattle.method.specs.Effects.{newRow, reported, committedRow, step}
 use Rattle.method.proofs.RecordLaws.{never}
 use Rattle.method.proofs.RowLaws.{ticket-part, getD-replicate-same, based-other, based-listed, reported-same, reported-other}
-use Rattle.runs.specs.Run.{Run, Run.start, Run.call, after, answerTo, Happened, Known, Begins, TakesTicket, Prepares, Commits, BegunIn}
-use Rattle.runs.specs.Sound.{IsActive, IsCommitted, num, Has, base, tick}
+use Rattle.method.specs.Seen.{Known, IsActive, IsCommitted, num, Has, base, tick}
+use Rattle.runs.specs.Run.{Run, Run.start, Run.call, after, answerTo, Happened, Begins, TakesTicket, Prepares, Commits, BegunIn}
 use Rattle.runs.specs.Follows.{BeginsAt, RowFollows}
-use Rattle.runs.proofs.OpenLaws.{new-part}
+use Rattle.invariant.proofs.OpenLaws.{new-part}
 
 pub happened-map : {P Q : Table → Call → Answer → Type 0} → ((t : Table) (c : Call) (a : Answer) → P t c a → Q t c a) → (r : Run) → Happened P r → Happened Q r
 unfolding Happened

@@ -20,9 +20,9 @@ use Rattle.method.specs.Effects.{reported, committedRow}
 use Rattle.method.proofs.RecordLaws.{never}
 use Rattle.method.proofs.RowLaws.{ticket-part, reported-same, reported-other}
 use Rattle.runs.specs.Run.{Run, Run.call, after, answerTo, Happened, TakesTicket, Prepares, Commits}
-use Rattle.runs.specs.Sound.{IsActive, IsCommitted, num, Has, base, tick}
+use Rattle.method.specs.Seen.{IsActive, IsCommitted, num, Has, base, tick}
 use Rattle.runs.specs.Follows.{BeginsAt, RowFollows}
-use Rattle.runs.proofs.ChangeLaws.{not-committed}
+use Rattle.invariant.proofs.ChangeLaws.{not-committed}
 use Rattle.runs.proofs.RowFollowLaws.{happened-map, later-iff}
 
 module _ (r : Run) (c : Call) (q : Row) (v : RowFollows r q) where

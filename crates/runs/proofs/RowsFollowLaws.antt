@@ -13,13 +13,13 @@ use Rattle.method.specs.Calls.{Call}
 use Rattle.method.specs.Calls.Call.{openWith, begin, reportTicket, reportPrepared, abort, decide, forget, sweep}
 use Rattle.method.specs.Effects.{committedRow, newRow, reported, step}
 use Rattle.method.proofs.RecordLaws.{never}
-use Rattle.runs.specs.Run.{Run, Run.start, Run.call, after, answerTo, Happened, Known, TakesTicket, Prepares, Commits, Aborts, BegunIn}
+use Rattle.method.specs.Seen.{Known, IsFree, num}
+use Rattle.runs.specs.Run.{Run, Run.start, Run.call, after, answerTo, Happened, TakesTicket, Prepares, Commits, Aborts, BegunIn}
 use Rattle.runs.specs.History.{history}
-use Rattle.runs.specs.Sound.{IsFree, num}
 use Rattle.runs.specs.Follows.{RowFollows}
-use Rattle.runs.proofs.ChangeLaws.{Changed, every, not-free}
-use Rattle.runs.proofs.OpenLaws.{invariant-closed, free-after-open}
-use Rattle.runs.proofs.InvariantLaws.{invariant-run}
+use Rattle.invariant.proofs.ChangeLaws.{Changed, every, not-free}
+use Rattle.invariant.proofs.OpenLaws.{invariant-closed, free-after-open}
+use Rattle.runs.proofs.HistoryLaws.{invariant-run}
 use Rattle.runs.proofs.StepLaws.{Change, Change.refuses, Change.opens, Change.begins, Change.tickets, Change.prepares, Change.commits, Change.frees, Change.sweeps}
 use Rattle.runs.proofs.CensusLaws.{closed-free, one-slot}
 use Rattle.runs.proofs.PresentLaws.{change-of-run, Census, census}

@@ -28,15 +28,15 @@ use Rattle.method.specs.Effects.{opened, newRow, reported, committedRow, decide
 use Rattle.method.proofs.StageLaws.{begun-of-step, ticketed-of-step}
 use Rattle.method.proofs.CallLaws.{Steps, Steps.stopped, Steps.passed, step-goes}
 use Rattle.runs.specs.Run.{Aborts}
-use Rattle.runs.specs.Sound.{IsFree, IsActive, IsCommitted, num, Has, tick}
-use Rattle.runs.specs.Invariant.{Invariant}
-use Rattle.runs.proofs.ChangeLaws.{Changed}
-use Rattle.runs.proofs.KnownLaws.{found, changed}
-use Rattle.runs.proofs.InvariantLaws.{closed-of-not-not}
-use Rattle.runs.proofs.OpenLaws.{begin-slot}
-use Rattle.runs.proofs.ReportLaws.{is-active, inside, has, above-base}
-use Rattle.runs.proofs.DecideLaws.{is-ready, raised-at}
-use Rattle.runs.proofs.SweepLaws.{slot-cases}
+use Rattle.method.specs.Seen.{IsFree, IsActive, IsCommitted, num, Has, tick}
+use Rattle.invariant.specs.Invariant.{Invariant}
+use Rattle.invariant.proofs.ChangeLaws.{Changed}
+use Rattle.invariant.proofs.KnownLaws.{found, changed}
+use Rattle.invariant.proofs.InvariantLaws.{closed-of-not-not}
+use Rattle.invariant.proofs.OpenLaws.{begin-slot}
+use Rattle.invariant.proofs.ReportLaws.{is-active, inside, has, above-base}
+use Rattle.invariant.proofs.DecideLaws.{is-ready, raised-at}
+use Rattle.invariant.proofs.SweepLaws.{slot-cases}
 
 -- from a table, by a call and its answer, to the next table
 module _ (t : Table) (c : Call) (a : Answer) (u : Table) where

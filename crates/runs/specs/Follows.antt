@@ -13,9 +13,9 @@ use Rattle.method.specs.declared.Table.{Table}
 use Rattle.method.specs.declared.Answer.{Answer}
 use Rattle.method.specs.Records.{noPart, rowAt, partAt, highAt}
 use Rattle.method.specs.Calls.{Call}
-use Rattle.runs.specs.Run.{Run, after, Happened, Known, Opens, Begins, TakesTicket, Prepares, Commits, CommitsBeside, Over, BegunIn, begins}
+use Rattle.method.specs.Seen.{Known, IsFree, IsActive, IsCommitted, num, Has, base, tick}
+use Rattle.runs.specs.Run.{Run, after, Happened, Opens, Begins, TakesTicket, Prepares, Commits, CommitsBeside, Over, BegunIn, begins}
 use Rattle.runs.specs.History.{history}
-use Rattle.runs.specs.Sound.{IsFree, IsActive, IsCommitted, num, Has, base, tick}
 
 -- begun with these sites, at a table whose highest tickets were these bases
 abbrev pub BeginsAt : Row → Table → Call → Answer → Type 0

@@ -7,7 +7,7 @@ use Rattle.method.specs.declared.Table.{Table}
 use Rattle.method.specs.Records.{freeRow, rowAt}
 use Rattle.method.specs.Calls.{Call}
 use Rattle.runs.specs.Run.{Run, Run.call, after, answerTo, Begins}
-use Rattle.runs.specs.Sound.{IsFree, num}
+use Rattle.method.specs.Seen.{IsFree, num}
 
 -- the slot is free, and no slot below it is
 pub record Lowest (t : Table) (i : ℕ) : Type 0 where

@@ -1,13 +1,12 @@
 -- A run of calls from the closed table on, and what can be read off it: which call was made when, and what it was answered.
 use mathlib.Core.Path.{_≡_}
 use mathlib.Core.List.{List, [], _∷_}
-use mathlib.Core.Logic.{_⊎_, _≢_}
+use mathlib.Core.Logic.{_⊎_}
 use Prim.Native.Nat.{ℕ, _+_}
-use Rattle.method.specs.declared.State.{State}
-use Rattle.method.specs.declared.Row.{Row}
 use Rattle.method.specs.declared.Table.{Table}
 use Rattle.method.specs.declared.Answer.{Answer}
-use Rattle.method.specs.Records.{number, closed, rowAt}
+use Rattle.method.specs.Records.{number, closed}
+use Rattle.method.specs.Seen.{Known, Active}
 use Rattle.method.specs.Calls.{Call}
 use Rattle.method.specs.Calls.Call.{openWith, begin, reportTicket, reportPrepared, abort, decide, forget, sweep}
 use Rattle.method.specs.Effects.{step}
@@ -29,16 +28,6 @@ answerTo r c = step (after r) c .answer
 unfoldable pub Happened : (Table → Call → Answer → Type 0) → Run → Type 0
 Happened P start = ⊥
 Happened P (call r c) = P (after r) c (answerTo r c) ⊎ Happened P r
-
--- the number stands in a slot; as that of an active transaction, or of a committed one
-abbrev pub Known : Table → ℕ → Type 0
-Known t n = (i : ℕ) × (rowAt t i .state ≢ State.Free) × (rowAt t i .number .0 ≡ n)
-
-abbrev pub Active : Table → ℕ → Type 0
-Active t n = (i : ℕ) × (rowAt t i .state ≡ State.Active) × (rowAt t i .number .0 ≡ n)
-
-abbrev pub Kept : Table → ℕ → Type 0
-Kept t n = (i : ℕ) × (rowAt t i .state ≡ State.Committed) × (rowAt t i .number .0 ≡ n)
 
 -- what a step is, told by its call and its answer
 abbrev pub Opens : ℕ → List ℕ → Table → Call → Answer → Type 0

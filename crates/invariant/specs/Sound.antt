@@ -1,4 +1,4 @@
--- The invariant: what stays true of a table and of all that was ever committed. The table is seen as functions, the row of
+-- What every method keeps true of a table and of all that was ever committed. The table is seen as functions, the row of
 -- a slot and the highest ticket of a site, so that nothing here depends on how long a list is. docs/ARCHITECTURE.md says why
 -- each field is needed.
 use mathlib.Core.Path.{_≡_}
@@ -10,34 +10,11 @@ use Rattle.graph.specs.Path.{Cycle}
 use Rattle.orders.specs.Arrow.{Tickets, ticketAt, Arrow}
 use Rattle.orders.specs.Entries.{Entry, EntryArrow}
 use Rattle.orders.specs.Good.{Apart}
-use Rattle.sites.specs.Sites.{sitesOf}
 use Rattle.method.specs.declared.Stage.{Stage}
-use Rattle.method.specs.declared.State.{State}
 use Rattle.method.specs.declared.Row.{Row}
 use Rattle.method.specs.Slots.{entryOf}
 use Rattle.method.specs.Records.{partAt, ticketsOf}
-
--- what a row says of itself, and of a site
-abbrev pub IsFree : Row → Type 0
-IsFree r = r .state ≡ State.Free
-
-abbrev pub IsActive : Row → Type 0
-IsActive r = r .state ≡ State.Active
-
-abbrev pub IsCommitted : Row → Type 0
-IsCommitted r = r .state ≡ State.Committed
-
-abbrev pub num : Row → ℕ
-num r = r .number .0
-
-abbrev pub Has : Row → ℕ → Type 0
-Has r s = s ∈ sitesOf (r .sites)
-
-abbrev pub base : Row → ℕ → ℕ
-base r s = partAt r s .base .0
-
-abbrev pub tick : Row → ℕ → ℕ
-tick r s = ticketAt (ticketsOf r) s
+use Rattle.method.specs.Seen.{IsFree, IsActive, IsCommitted, num, Has, base, tick}
 
 -- the row's bases are at or above these tickets
 unfoldable pub Above : Row → Tickets → Type 0

@@ -9,8 +9,8 @@ use Rattle.method.specs.declared.Row.{Row}
 use Rattle.method.specs.declared.Table.{Table}
 use Rattle.method.specs.Records.{freeRow, pastEnd, rowAt}
 use Rattle.method.proofs.SlotLaws.{set-cases}
-use Rattle.runs.specs.Sound.{IsFree, Has}
-use Rattle.runs.specs.Invariant.{Shape}
+use Rattle.method.specs.Seen.{IsFree, Has}
+use Rattle.invariant.specs.Invariant.{Shape}
 
 -- slot i became r, and nothing else that the shape is about changed
 pub shape-set : (t t′ : Table) (i : ℕ) (r : Row) → Shape t → i < length (t .rows) → t′ .rows ≡ set (t .rows) i r → t′ .sites ≡ t .sites → length (t′ .high) ≡ 8

@@ -7,7 +7,8 @@ use Rattle.method.specs.declared.State.{State}
 use Rattle.method.specs.declared.Row.{Row}
 use Rattle.method.specs.Slots.{entryOf}
 use Rattle.method.proofs.RecordLaws.{never}
-use Rattle.runs.specs.Sound.{IsCommitted, Still}
+use Rattle.method.specs.Seen.{IsCommitted}
+use Rattle.invariant.specs.Sound.{Still}
 
 -- slot i became r, the others stayed
 abbrev pub Changed : (ℕ → Row) → ℕ → Row → (ℕ → Row) → Type 0

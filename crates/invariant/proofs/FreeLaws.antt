@@ -9,7 +9,8 @@ use Rattle.orders.specs.Entries.{Entry}
 use Rattle.method.specs.declared.Row.{Row}
 use Rattle.method.specs.Slots.{entryOf}
 use Rattle.method.proofs.RecordLaws.{never}
-use Rattle.runs.specs.Sound.{IsFree, IsCommitted, num, Has, tick, RowSound, PairSound, Past, Still, Gone, Sound}
+use Rattle.method.specs.Seen.{IsFree, IsCommitted, num, Has, tick}
+use Rattle.invariant.specs.Sound.{RowSound, PairSound, Past, Still, Gone, Sound}
 
 -- a free row: no number, no tickets
 pub record Blank (r : Row) : Type 0 where

@@ -14,8 +14,9 @@ use Rattle.orders.specs.Good.{Clash}
 use Rattle.method.specs.declared.Row.{Row}
 use Rattle.method.specs.Records.{ticketsOf}
 use Rattle.method.specs.Slots.{entryOf}
-use Rattle.runs.specs.Sound.{IsActive, IsCommitted, num, tick, Above, Differs, Past, Still, Gone, Sound}
-use Rattle.runs.proofs.ChangeLaws.{not-committed, not-free}
+use Rattle.method.specs.Seen.{IsActive, IsCommitted, num, tick}
+use Rattle.invariant.specs.Sound.{Above, Differs, Past, Still, Gone, Sound}
+use Rattle.invariant.proofs.ChangeLaws.{not-committed, not-free}
 
 -- these are the kept rows
 pub record Keeps (row : ℕ → Row) (ks : List Entry) : Type 0 where

@@ -1,4 +1,4 @@
--- Every run keeps the invariant, whatever calls it makes; and so all that it ever committed has an order. Assumes nothing.
+-- Every call keeps the invariant, whatever it is and however it is answered. Assumes nothing.
 use mathlib.Core.Path.{_≡_, refl, sym, ap, subst, _∙_}
 use mathlib.Core.Bool.{Bool, true, false}
 use mathlib.Core.List.{List, _∷_, map}
@@ -9,9 +9,6 @@ use Rattle.graph.specs.Path.{Cycle}
 use Rattle.graph.specs.Acyclic.{acyclic}
 use Rattle.orders.specs.Arrow.{arrowb}
 use Rattle.orders.specs.Entries.{Entry}
-use Rattle.orders.specs.Good.{Apart}
-use Rattle.orders.specs.Order.{InOrder}
-use Rattle.orders.proofs.OrderLaws.{order-exists-iff-no-cycle}
 use Rattle.method.specs.declared.Table.{Table}
 use Rattle.method.specs.declared.Answer.{Answer}
 use Rattle.method.specs.declared.Answered.{Answered}
@@ -23,14 +20,13 @@ use Rattle.method.specs.Calls.Call.{openWith, begin, reportTicket, reportPrepar
 use Rattle.method.specs.Effects.{decided, effect, step}
 use Rattle.method.proofs.CallLaws.{Steps, Steps.stopped, Steps.passed, step-goes}
 use Rattle.method.proofs.GraphLaws.{no-cycle-iff}
-use Rattle.runs.specs.Run.{Run, Run.start, Run.call, after}
-use Rattle.runs.specs.History.{noted, history}
-use Rattle.runs.specs.Invariant.{Invariant}
-use Rattle.runs.proofs.OpenLaws.{invariant-closed, invariant-open, invariant-begin}
-use Rattle.runs.proofs.ReportLaws.{invariant-ticket, invariant-prepared}
-use Rattle.runs.proofs.DropLaws.{invariant-abort, invariant-forget}
-use Rattle.runs.proofs.DecideLaws.{fits-of-test, invariant-commit, invariant-cycle}
-use Rattle.runs.proofs.SweepLaws.{invariant-sweep}
+use Rattle.invariant.specs.Noted.{noted}
+use Rattle.invariant.specs.Invariant.{Invariant}
+use Rattle.invariant.proofs.OpenLaws.{invariant-closed, invariant-open, invariant-begin}
+use Rattle.invariant.proofs.ReportLaws.{invariant-ticket, invariant-prepared}
+use Rattle.invariant.proofs.DropLaws.{invariant-abort, invariant-forget}
+use Rattle.invariant.proofs.DecideLaws.{fits-of-test, invariant-commit, invariant-cycle}
+use Rattle.invariant.proofs.SweepLaws.{invariant-sweep}
 
 pub closed-of-not-not : (t : Table) → ¬ ¬ Closed t → Closed t
 closed-of-not-not t n = elim (ℕ-discrete (t .sites) 0) [ yes e ↦ e | no e ↦ absurd (n e) ]
@@ -57,15 +53,3 @@ invariant-step t es c v = go (step-goes t c)
     go : Steps t c (step t c) → Invariant (step t c .table) (noted t (step t c .answer) es)
     go (stopped k f p q) = rw (p, q) v
     go (passed n e) = rw e (invariant-effect t es c v n)
-
-pub invariant-run : (r : Run) → Invariant (after r) (history r)
-unfolding after history
-invariant-run start = invariant-closed
-invariant-run (call r c) = invariant-step (after r) (history r) c (invariant-run r)
-
--- all that was committed since the opening, forgotten ones too: different numbers, different tickets at each site, and an order
-pub history-apart : (r : Run) → Apart (history r)
-history-apart r = invariant-run r .sound .apart
-
-pub history-ordered : (r : Run) → (order : List ℕ) × InOrder (history r) order
-history-ordered r = order-exists-iff-no-cycle (history r) (history-apart r .numbers) .1 (invariant-run r .sound .acyclic)

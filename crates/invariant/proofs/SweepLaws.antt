@@ -22,13 +22,14 @@ use Rattle.method.specs.Effects.{stays, sweptRow, sweptTable}
 use Rattle.method.proofs.RecordLaws.{never, committed-iff}
 use Rattle.method.proofs.SlotLaws.{kept-of-place}
 use Rattle.method.proofs.GraphLaws.{stays-iff}
-use Rattle.runs.specs.Sound.{IsCommitted, Past, Gone}
-use Rattle.runs.specs.Invariant.{Invariant}
-use Rattle.runs.proofs.FreeLaws.{Blank, sound-freed, blank-past}
-use Rattle.runs.proofs.OrderlyLaws.{orderly-freed}
-use Rattle.runs.proofs.ShapeLaws.{shape-freed}
-use Rattle.runs.proofs.KnownLaws.{blank-free, no-site-free, later-of-free}
-use Rattle.runs.proofs.DropLaws.{past-of-loose}
+use Rattle.method.specs.Seen.{IsCommitted}
+use Rattle.invariant.specs.Sound.{Past, Gone}
+use Rattle.invariant.specs.Invariant.{Invariant}
+use Rattle.invariant.proofs.FreeLaws.{Blank, sound-freed, blank-past}
+use Rattle.invariant.proofs.OrderlyLaws.{orderly-freed}
+use Rattle.invariant.proofs.ShapeLaws.{shape-freed}
+use Rattle.invariant.proofs.KnownLaws.{blank-free, no-site-free, later-of-free}
+use Rattle.invariant.proofs.DropLaws.{past-of-loose}
 
 module _ (t : Table) where
   abbrev row′ : ℕ → Row

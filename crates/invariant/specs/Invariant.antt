@@ -8,8 +8,9 @@ use Rattle.orders.specs.Entries.{Entry}
 use Rattle.method.specs.declared.Table.{Table}
 use Rattle.method.specs.Records.{freeRow, closed, rowAt, highAt}
 use Rattle.method.specs.Conditions.{Closed}
-use Rattle.runs.specs.Sound.{IsFree, Has, Sound}
-use Rattle.runs.specs.Orderly.{Orderly}
+use Rattle.method.specs.Seen.{IsFree, Has}
+use Rattle.invariant.specs.Sound.{Sound}
+use Rattle.invariant.specs.Orderly.{Orderly}
 
 pub record Shape (t : Table) : Type 0 where
   -- 32 slots of 8 sites each, and 8 highest tickets

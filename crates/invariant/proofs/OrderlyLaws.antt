@@ -4,12 +4,13 @@ use mathlib.Core.Logic.{_≢_, _⊎_, inl, inr}
 use Prim.Native.Nat.{ℕ, _<_}
 use native.Mathlib.Omega.{arith}
 use Rattle.method.specs.declared.Row.{Row}
-use Rattle.runs.specs.Sound.{tick, Differs}
-use Rattle.runs.specs.Orderly.{Orderly}
-use Rattle.runs.proofs.ChangeLaws.{Changed}
-use Rattle.runs.proofs.ChangeLaws as one
-use Rattle.runs.proofs.FreeLaws.{Blank}
-use Rattle.runs.proofs.FreeLaws as some
+use Rattle.method.specs.Seen.{tick}
+use Rattle.invariant.specs.Sound.{Differs}
+use Rattle.invariant.specs.Orderly.{Orderly}
+use Rattle.invariant.proofs.ChangeLaws.{Changed}
+use Rattle.invariant.proofs.ChangeLaws as one
+use Rattle.invariant.proofs.FreeLaws.{Blank}
+use Rattle.invariant.proofs.FreeLaws as some
 
 blank-left : {f : Row} → Blank f → (q : Row) → Differs f q
 blank-left b q s h = absurd (omega (arith, b .tickets s))

@@ -11,8 +11,9 @@ use Rattle.orders.specs.Entries.{Entry}
 use Rattle.method.specs.declared.Row.{Row}
 use Rattle.method.specs.Records.{ticketsOf}
 use Rattle.method.specs.Slots.{entryOf}
-use Rattle.runs.specs.Sound.{IsActive, IsCommitted, num, Has, base, tick, Above, RowSound, PairSound, Past, Still, Gone, Sound}
-use Rattle.runs.proofs.ChangeLaws.{Changed, not-committed, not-free, every, both, keeps}
+use Rattle.method.specs.Seen.{IsActive, IsCommitted, num, Has, base, tick}
+use Rattle.invariant.specs.Sound.{Above, RowSound, PairSound, Past, Still, Gone, Sound}
+use Rattle.invariant.proofs.ChangeLaws.{Changed, not-committed, not-free, every, both, keeps}
 
 -- what a mark may change in row q to give r
 pub record Marked (q r : Row) : Type 0 where

@@ -29,12 +29,13 @@ use Rattle.method.specs.Calls.Call.{reportTicket, reportPrepared}
 use Rattle.method.proofs.RecordLaws.{never}
 use Rattle.method.proofs.StageLaws.{begun-of-step, ticketed-of-step}
 use Rattle.method.proofs.RowLaws.{ticket-part, reported-same, reported-other, length-reported}
-use Rattle.runs.specs.Sound.{IsFree, IsActive, IsCommitted, num, Has, base, tick, Sound}
-use Rattle.runs.specs.Invariant.{Invariant}
-use Rattle.runs.proofs.MarkLaws.{Marked, sound-marked}
-use Rattle.runs.proofs.OrderlyLaws.{orderly-changed}
-use Rattle.runs.proofs.ShapeLaws.{shape-set}
-use Rattle.runs.proofs.KnownLaws.{Found, found, changed}
+use Rattle.method.specs.Seen.{IsFree, IsActive, IsCommitted, num, Has, base, tick}
+use Rattle.invariant.specs.Sound.{Sound}
+use Rattle.invariant.specs.Invariant.{Invariant}
+use Rattle.invariant.proofs.MarkLaws.{Marked, sound-marked}
+use Rattle.invariant.proofs.OrderlyLaws.{orderly-changed}
+use Rattle.invariant.proofs.ShapeLaws.{shape-set}
+use Rattle.invariant.proofs.KnownLaws.{Found, found, changed}
 
 -- what a new ticket may be: the old one, or one at a listed site, above the base
 abbrev New : Row → ℕ → ℕ → Type 0

@@ -25,8 +25,9 @@ use Rattle.method.specs.Slots.{kept, entryOf, keptEntries, keptFlat}
 use Rattle.method.proofs.RecordLaws.{never, committed-iff}
 use Rattle.method.proofs.SlotLaws.{place-of-kept}
 use Rattle.method.proofs.RowLaws.{length-tickets}
-use Rattle.runs.specs.Sound.{IsFree, IsCommitted, num, PairSound}
-use Rattle.runs.specs.Invariant.{Invariant}
+use Rattle.method.specs.Seen.{IsFree, IsCommitted, num}
+use Rattle.invariant.specs.Sound.{PairSound}
+use Rattle.invariant.specs.Invariant.{Invariant}
 
 not-free-of-committed : (r : Row) → committed r ≡ true → ¬ IsFree r
 not-free-of-committed r e f = let c = committed-iff (r .state) .0 e in never (cc)

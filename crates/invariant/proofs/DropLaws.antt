@@ -13,13 +13,14 @@ use Rattle.method.specs.Slots.{slotOf, rowOfNumber, entryOf}
 use Rattle.method.specs.Conditions.{Closed, Unknown, MayNotForget}
 use Rattle.method.specs.Effects.{freed}
 use Rattle.method.proofs.RecordLaws.{never}
-use Rattle.runs.specs.Sound.{IsFree, IsActive, IsCommitted, num, Past, Gone, Sound}
-use Rattle.runs.specs.Invariant.{Invariant}
-use Rattle.runs.proofs.ChangeLaws.{Changed, not-committed, not-free, every}
-use Rattle.runs.proofs.FreeLaws.{Blank, sound-freed, blank-past}
-use Rattle.runs.proofs.OrderlyLaws.{orderly-freed}
-use Rattle.runs.proofs.ShapeLaws.{shape-set}
-use Rattle.runs.proofs.KnownLaws.{found, changed, blank-free, no-site-free, later-of-free, unpointed-of-free}
+use Rattle.method.specs.Seen.{IsFree, IsActive, IsCommitted, num}
+use Rattle.invariant.specs.Sound.{Past, Gone, Sound}
+use Rattle.invariant.specs.Invariant.{Invariant}
+use Rattle.invariant.proofs.ChangeLaws.{Changed, not-committed, not-free, every}
+use Rattle.invariant.proofs.FreeLaws.{Blank, sound-freed, blank-past}
+use Rattle.invariant.proofs.OrderlyLaws.{orderly-freed}
+use Rattle.invariant.proofs.ShapeLaws.{shape-set}
+use Rattle.invariant.proofs.KnownLaws.{found, changed, blank-free, no-site-free, later-of-free, unpointed-of-free}
 
 -- a committed row that no active one holds back is past, for each row without an arrow to it
 pub past-of-loose : (row : ℕ → Row) (high : ℕ → ℕ) (last : ℕ) (es : List Entry) → Sound row high last es → (i : ℕ) → IsCommitted (row i)

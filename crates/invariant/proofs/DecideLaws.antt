@@ -30,15 +30,16 @@ use Rattle.method.specs.Effects.{committedRow, raised, decided}
 use Rattle.method.proofs.RecordLaws.{never, prepared-iff, committed-iff}
 use Rattle.method.proofs.SlotLaws.{kept-of-place, place-of-kept}
 use Rattle.method.proofs.RowLaws.{ticket-part, length-raised, raised-other, raised-listed}
-use Rattle.runs.specs.Sound.{IsActive, IsCommitted, Has, tick, Differs, Sound}
-use Rattle.runs.specs.Orderly.{Fits}
-use Rattle.runs.specs.Invariant.{Invariant}
-use Rattle.runs.proofs.ChangeLaws.{not-committed}
-use Rattle.runs.proofs.CommitLaws.{Sealed, sound-committed}
-use Rattle.runs.proofs.OrderlyLaws.{orderly-changed}
-use Rattle.runs.proofs.ShapeLaws.{shape-set}
-use Rattle.runs.proofs.KnownLaws.{found, changed, keeps-kept}
-use Rattle.runs.proofs.DropLaws.{invariant-freed}
+use Rattle.method.specs.Seen.{IsActive, IsCommitted, Has, tick}
+use Rattle.invariant.specs.Sound.{Differs, Sound}
+use Rattle.invariant.specs.Orderly.{Fits}
+use Rattle.invariant.specs.Invariant.{Invariant}
+use Rattle.invariant.proofs.ChangeLaws.{not-committed}
+use Rattle.invariant.proofs.CommitLaws.{Sealed, sound-committed}
+use Rattle.invariant.proofs.OrderlyLaws.{orderly-changed}
+use Rattle.invariant.proofs.ShapeLaws.{shape-set}
+use Rattle.invariant.proofs.KnownLaws.{found, changed, keeps-kept}
+use Rattle.invariant.proofs.DropLaws.{invariant-freed}
 
 -- no cycle of the rows is no cycle of their entries
 entries-acyclic : (rs : List Row) → ¬ Cycle Goes rs → ¬ Cycle EntryArrow (map entryOf rs)

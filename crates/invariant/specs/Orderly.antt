@@ -9,7 +9,7 @@ use Rattle.method.specs.declared.Row.{Row}
 use Rattle.method.specs.declared.Table.{Table}
 use Rattle.method.specs.Records.{Goes}
 use Rattle.method.specs.Slots.{kept}
-use Rattle.runs.specs.Sound.{Differs}
+use Rattle.invariant.specs.Sound.{Differs}
 
 -- with the kept rows the candidate makes no cycle, and it holds no ticket of theirs
 pub record Fits (t : Table) (r : Row) : Type 0 where

@@ -26,14 +26,15 @@ use Rattle.method.proofs.RecordLaws.{never, free-iff}
 use Rattle.method.proofs.ConditionLaws.{full-iff}
 use Rattle.method.proofs.SlotLaws.{first-found}
 use Rattle.method.proofs.RowLaws.{ticket-part, getD-replicate-same, length-based, based-other, based-listed}
-use Rattle.runs.specs.Sound.{IsFree, IsCommitted, num, tick, Has, base, Sound}
-use Rattle.runs.specs.Invariant.{Shape, Invariant}
-use Rattle.runs.proofs.ChangeLaws.{Changed}
-use Rattle.runs.proofs.FreeLaws.{Blank, blank-row, blank-left}
-use Rattle.runs.proofs.BeginLaws.{Fresh, sound-begun}
-use Rattle.runs.proofs.OrderlyLaws.{orderly-empty, orderly-changed}
-use Rattle.runs.proofs.ShapeLaws.{shape-set}
-use Rattle.runs.proofs.KnownLaws.{changed, tick-zero, blank-free, blank-past-end, no-site-free}
+use Rattle.method.specs.Seen.{IsFree, IsCommitted, num, tick, Has, base}
+use Rattle.invariant.specs.Sound.{Sound}
+use Rattle.invariant.specs.Invariant.{Shape, Invariant}
+use Rattle.invariant.proofs.ChangeLaws.{Changed}
+use Rattle.invariant.proofs.FreeLaws.{Blank, blank-row, blank-left}
+use Rattle.invariant.proofs.BeginLaws.{Fresh, sound-begun}
+use Rattle.invariant.proofs.OrderlyLaws.{orderly-empty, orderly-changed}
+use Rattle.invariant.proofs.ShapeLaws.{shape-set}
+use Rattle.invariant.proofs.KnownLaws.{changed, tick-zero, blank-free, blank-past-end, no-site-free}
 
 -- a table of free slots
 sound-empty : (row : ℕ → Row) (high : ℕ → ℕ) (last : ℕ) → ((i : ℕ) → Blank (row i)) → Sound row high last []

@@ -15,9 +15,10 @@ use Rattle.method.specs.declared.Row.{Row}
 use Rattle.method.specs.Slots.{entryOf}
 use Rattle.method.specs.Records.{partAt, ticketsOf}
 use Rattle.method.proofs.RecordLaws.{never}
-use Rattle.runs.specs.Sound.{IsActive, IsCommitted, num, Has, base, tick, Differs, RowSound, PairSound, Past, Still, Gone, EntrySound, Sound}
-use Rattle.runs.proofs.ChangeLaws.{Changed, not-committed, not-free, every, both, there, keeps}
-use Rattle.runs.proofs.NewestLaws.{Keeps, unpointed, no-clash, no-new-cycle}
+use Rattle.method.specs.Seen.{IsActive, IsCommitted, num, Has, base, tick}
+use Rattle.invariant.specs.Sound.{Differs, RowSound, PairSound, Past, Still, Gone, EntrySound, Sound}
+use Rattle.invariant.proofs.ChangeLaws.{Changed, not-committed, not-free, every, both, there, keeps}
+use Rattle.invariant.proofs.NewestLaws.{Keeps, unpointed, no-clash, no-new-cycle}
 
 -- row q, once committed, is row r
 pub record Sealed (last : ℕ) (q r : Row) : Type 0 where

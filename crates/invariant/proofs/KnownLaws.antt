@@ -20,11 +20,10 @@ use Rattle.method.proofs.RecordLaws.{active-iff, committed-iff}
 use Rattle.method.proofs.ConditionLaws.{has-number-iff, unknown-iff}
 use Rattle.method.proofs.SlotLaws.{first-found, kept-of-place, place-of-kept, set-cases}
 use Rattle.method.proofs.RowLaws.{ticket-part, getD-replicate-same}
-use Rattle.runs.specs.Run.{Known}
-use Rattle.runs.specs.Sound.{IsFree, IsActive, IsCommitted, num, tick, Has}
-use Rattle.runs.proofs.ChangeLaws.{Changed}
-use Rattle.runs.proofs.FreeLaws.{Blank}
-use Rattle.runs.proofs.NewestLaws.{Keeps}
+use Rattle.method.specs.Seen.{Known, IsFree, IsActive, IsCommitted, num, tick, Has}
+use Rattle.invariant.proofs.ChangeLaws.{Changed}
+use Rattle.invariant.proofs.FreeLaws.{Blank}
+use Rattle.invariant.proofs.NewestLaws.{Keeps}
 
 -- a number that the table knows: its slot is one of the table's, is not free, and has it
 pub record Found (t : Table) (n : ℕ) : Type 0 where

@@ -1,0 +1,16 @@
+pub mod ChangeLaws
+pub mod FreeLaws
+pub mod OrderlyLaws
+pub mod MarkLaws
+pub mod BeginLaws
+pub mod NewestLaws
+pub mod CommitLaws
+pub mod KnownLaws
+pub mod ShapeLaws
+pub mod OpenLaws
+pub mod ReportLaws
+pub mod DropLaws
+pub mod DecideLaws
+pub mod SweepLaws
+pub mod InvariantLaws
+pub mod KeptLaws

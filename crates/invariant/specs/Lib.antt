@@ -1,0 +1,4 @@
+pub mod Sound
+pub mod Orderly
+pub mod Invariant
+pub mod Noted
