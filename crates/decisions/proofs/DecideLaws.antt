@@ -12,7 +12,7 @@ use Rattle.method.specs.declared.Table.{Table}
 use Rattle.method.specs.declared.Answer.{Answer}
 use Rattle.method.specs.Records.{rowAt, ticketsOf}
 use Rattle.method.specs.Slots.{rowOfNumber, kept}
-use Rattle.method.specs.Conditions.{notReady}
+use Rattle.method.specs.Conditions.{notPrepared}
 use Rattle.method.specs.Calls.{checks}
 use Rattle.method.specs.Calls.Call.{decide}
 use Rattle.method.specs.Effects.{answered, decided, effect, step}
@@ -26,7 +26,7 @@ use Rattle.decisions.specs.Ways.{committing, cancelling}
 
 module _ (t : Table) (l : length (t .rows) ≡ 32) (n : ℕ) where
   abbrev behind : List (ℕ × Bool)
-  behind = (4, notReady (rowOfNumber t n)) ∷ []
+  behind = (4, notPrepared (rowOfNumber t n)) ∷ []
 
   pub decide-unknown : (x : ℕ) → gateOf t n ≡ Gate.Refused x → step t (decide n) ≡ answered t (Answer.Refused x)
   unfolding checks
@@ -39,20 +39,20 @@ module _ (t : Table) (l : length (t .rows) ≡ 32) (n : ℕ) where
     pub decide-inside : i < 32
     decide-inside = passed .inside
 
-    same-ready : notReady (rowOfNumber t n) ≡ notReady (rowAt t i)
-    same-ready = ap (λ (j : ℕ). notReady (rowAt t j)) (sym (passed .slot))
+    same-prepared : notPrepared (rowOfNumber t n) ≡ notPrepared (rowAt t i)
+    same-prepared = ap (λ (j : ℕ). notPrepared (rowAt t j)) (sym (passed .slot))
 
-    pub decide-early : notReady (rowAt t i) ≡ true → step t (decide n) ≡ answered t (Answer.Refused 4)
+    pub decide-early : notPrepared (rowAt t i) ≡ true → step t (decide n) ≡ answered t (Answer.Refused 4)
     unfolding checks
-    decide-early e = stopped t (decide n) 4 (passed .on ∙ first-true 4 (notReady (rowOfNumber t n)) [] (same-ready ∙ e))
+    decide-early e = stopped t (decide n) 4 (passed .on ∙ first-true 4 (notPrepared (rowOfNumber t n)) [] (same-prepared ∙ e))
 
-    module _ (ready : notReady (rowAt t i) ≡ false) (flat : List ℕ) (al : Aligned t i flat) (b : Bool) (tells : TellsCycle flat b) where
+    module _ (prepared : notPrepared (rowAt t i) ≡ false) (flat : List ℕ) (al : Aligned t i flat) (b : Bool) (tells : TellsCycle flat b) where
       verdict : acyclic arrowb (ticketsOf (rowAt t i) ∷ map ticketsOf (kept t)) ≡ not b
       verdict = acyclic-of-answer ticketsOf (rowAt t i ∷ kept t) (In t i) flat (slotted-with t l i (passed .inside) flat al) b tells
 
       goes : step t (decide n) ≡ decided t n (not b)
       unfolding checks effect
-      goes = unstopped t (decide n) (passed .on ∙ first-false 4 (notReady (rowOfNumber t n)) [] (same-ready ∙ ready))
+      goes = unstopped t (decide n) (passed .on ∙ first-false 4 (notPrepared (rowOfNumber t n)) [] (same-prepared ∙ prepared))
           ∙ ap (decided t n) (rw (passed .slot) at verdict)
 
       pub decide-cycle : b ≡ true → step t (decide n) ≡ cancelling t i n

@@ -59,7 +59,7 @@ pub fn decide(t: Table, n: Number) -> Answered
         Gate::Refused(k) => records::refuse(t, k),
         Gate::At(slot) => {
             let row = t.rows[slot];
-            if !parts::is_ready(row) {
+            if !parts::is_prepared(row) {
                 return records::refuse(t, 4);
             }
             let flat = kept::aligned(t, slot);

@@ -38,7 +38,7 @@ module _ {row row′ : ℕ → Row} {i : ℕ} {r : Row} (ch : Changed row i r ro
     over = λ s h. absurd (omega (arith, f .empty s));
     based = λ s h. omega (arith, f .bases s h);
     below = λ c. absurd (not-committed (f .is) c);
-    ready = λ c. absurd (not-committed (f .is) c);
+    prepared = λ c. absurd (not-committed (f .is) c);
   }
 
   rows : (j : ℕ) → RowSound high (last + 1) (row j)
@@ -51,7 +51,7 @@ module _ {row row′ : ℕ → Row} {i : ℕ} {r : Row} (ch : Changed row i r ro
     over = o .over;
     based = o .based;
     below = o .below;
-    ready = o .ready;
+    prepared = o .prepared;
   }
 
   left : (j : ℕ) → j ≢ i → PairSound r (row j)

@@ -28,7 +28,7 @@ pub record Sealed (last : ℕ) (q r : Row) : Type 0 where
   pub sites : (s : ℕ) → Has q s → Has r s
   pub sites′ : (s : ℕ) → Has r s → Has q s
   pub bases : (s : ℕ) → base r s ≡ base q s
-  pub ready : (s : ℕ) → Has r s → partAt r s .stage ≡ Stage.Prepared
+  pub prepared : (s : ℕ) → Has r s → partAt r s .stage ≡ Stage.Prepared
   pub mark : r .last .0 ≡ last
 
 module _ {row row′ : ℕ → Row} {i : ℕ} {r : Row} (ch : Changed row i r row′) (last : ℕ) (d : Sealed last (row i) r)
@@ -59,7 +59,7 @@ module _ {row row′ : ℕ → Row} {i : ℕ} {r : Row} (ch : Changed row i r ro
     over = λ s h. omega (arith, tick-same s, d .bases s, old .over s (omega (arith, tick-same s)));
     based = λ s h. omega (arith, d .bases s, old .based s (d .sites′ s h), up s);
     below = λ c s. omega (arith, tick-same s, own s);
-    ready = λ c. d .ready;
+    prepared = λ c. d .prepared;
   }
 
   rows : (j : ℕ) → RowSound high′ last (row j)
@@ -72,7 +72,7 @@ module _ {row row′ : ℕ → Row} {i : ℕ} {r : Row} (ch : Changed row i r ro
     over = o .over;
     based = λ s h. omega (arith, o .based s h, up s);
     below = λ c s. omega (arith, o .below c s, up s);
-    ready = o .ready;
+    prepared = o .prepared;
   }
 
   left : (j : ℕ) → j ≢ i → PairSound r (row j)

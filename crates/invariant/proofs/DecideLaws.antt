@@ -25,7 +25,7 @@ use Rattle.method.specs.declared.Row.{Row}
 use Rattle.method.specs.declared.Table.{Table}
 use Rattle.method.specs.Records.{ticket, pastEnd, rowAt, partAt, highAt, isPrepared, committed, ticketsOf, Goes}
 use Rattle.method.specs.Slots.{slotOf, rowOfNumber, kept, entryOf}
-use Rattle.method.specs.Conditions.{Closed, Unknown, NotReady}
+use Rattle.method.specs.Conditions.{Closed, Unknown, NotPrepared}
 use Rattle.method.specs.Effects.{committedRow, raised, decided}
 use Rattle.method.proofs.RecordLaws.{never, prepared-iff, committed-iff}
 use Rattle.method.proofs.SlotLaws.{kept-of-place, place-of-kept}
@@ -46,7 +46,7 @@ entries-acyclic : (rs : List Row) → ¬ Cycle Goes rs → ¬ Cycle EntryArrow (
 unfolding entryOf
 entries-acyclic rs n c = n (mapped-cycle-iff entryOf rs EntryArrow .1 c)
 
-module _ (t : Table) (es : List Entry) (v : Invariant t es) (n : ℕ) (nc : ¬ Closed t) (nu : ¬ Unknown t n) (nr : ¬ NotReady (rowOfNumber t n)) where
+module _ (t : Table) (es : List Entry) (v : Invariant t es) (n : ℕ) (nc : ¬ Closed t) (nu : ¬ Unknown t n) (nr : ¬ NotPrepared (rowOfNumber t n)) where
   abbrev q : Row
   q = rowOfNumber t n
 
@@ -56,16 +56,16 @@ module _ (t : Table) (es : List Entry) (v : Invariant t es) (n : ℕ) (nc : ¬ C
   slot : at < length (t .rows)
   slot = found t n nu .slot
 
-  pub is-ready : IsActive q
-  is-ready = go (q .state) refl
+  pub is-active : IsActive q
+  is-active = go (q .state) refl
     where
       go : (x : State) → q .state ≡ x → IsActive q
       go State.Free e = absurd (nr (inl (λ a. never (cc))))
       go State.Active e = e
       go State.Committed e = absurd (nr (inl (λ a. never (cc))))
 
-  ready : (s : ℕ) → Has q s → partAt q s .stage ≡ Stage.Prepared
-  ready s m = go (true-or-false (isPrepared (partAt q s .stage)))
+  prepared : (s : ℕ) → Has q s → partAt q s .stage ≡ Stage.Prepared
+  prepared s m = go (true-or-false (isPrepared (partAt q s .stage)))
     where
       go : (isPrepared (partAt q s .stage) ≡ true) ⊎ (isPrepared (partAt q s .stage) ≡ false) → partAt q s .stage ≡ Stage.Prepared
       go (inl e) = prepared-iff (partAt q s .stage) .0 e
@@ -73,7 +73,7 @@ module _ (t : Table) (es : List Entry) (v : Invariant t es) (n : ℕ) (nc : ¬ C
 
   sealed : Sealed (t .last .0) q (committedRow t q)
   unfolding committedRow entryOf ticketsOf
-  sealed = record { was = is-ready; is = refl; same = refl; sites = λ s m. m; sites′ = λ s m. m; bases = λ s. refl; ready = ready; mark = refl }
+  sealed = record { was = is-active; is = refl; same = refl; sites = λ s m. m; sites′ = λ s m. m; bases = λ s. refl; prepared = prepared; mark = refl }
 
   abbrev high′ : ℕ → ℕ
   high′ s = getD (raised q (sitesOf (q .sites)) (t .high)) s (ticket 0) .0
@@ -108,7 +108,7 @@ module _ (t : Table) (es : List Entry) (v : Invariant t es) (n : ℕ) (nc : ¬ C
     apart = λ r m.
         let (j, h, e, c) = place-of-kept committed (t .rows) pastEnd m in
         let k : IsCommitted (rowAt t j) = committed-iff (rowAt t j .state) .0 (rw e c) in
-        subst (Differs q) e (v .orderly at j (λ x. not-committed is-ready (rw x k)));
+        subst (Differs q) e (v .orderly at j (λ x. not-committed is-active (rw x k)));
   }
 
   pub invariant-commit : Fits t q → Invariant (decided t n true .table) (entryOf q ∷ es)
@@ -125,4 +125,4 @@ module _ (t : Table) (es : List Entry) (v : Invariant t es) (n : ℕ) (nc : ¬ C
 
   pub invariant-cycle : Invariant (decided t n false .table) es
   unfolding decided
-  invariant-cycle = invariant-freed t es at v nc slot (λ c. absurd (not-committed is-ready c))
+  invariant-cycle = invariant-freed t es at v nc slot (λ c. absurd (not-committed is-active c))

@@ -31,7 +31,7 @@ module _ {f : Row} (b : Blank f) where
     over = λ s h. absurd (omega (arith, b .tickets s));
     based = λ s h. absurd (b .sites s h);
     below = λ c. let z = b .free in never (cc);
-    ready = λ c. let z = b .free in never (cc);
+    prepared = λ c. let z = b .free in never (cc);
   }
 
   pub blank-left : (q : Row) → PairSound f q

@@ -45,7 +45,7 @@ module _ {row row′ : ℕ → Row} {i : ℕ} {r : Row} (ch : Changed row i r ro
       over = λ s h. elim (m .tickets s) [ inl e ↦ omega (arith, m .bases s, old .over s (omega arith)) | inr k ↦ omega (arith, m .bases s) ];
       based = λ s h. omega (arith, m .bases s, old .based s (m .sites′ s h));
       below = λ c. absurd (not-committed (m .is) c);
-      ready = λ c. absurd (not-committed (m .is) c);
+      prepared = λ c. absurd (not-committed (m .is) c);
     }
 
     left : (j : ℕ) → j ≢ i → PairSound r (row j)

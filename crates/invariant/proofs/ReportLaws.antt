@@ -110,7 +110,7 @@ module _ (t : Table) (es : List Entry) (v : Invariant t es) (n s : ℕ) (p : Rep
       go : (x : State) → q .state ≡ x → IsActive q
       go State.Free e = absurd (found t n nu .used e)
       go State.Active e = e
-      go State.Committed e = absurd (not-prepared (partAt q s .stage) p ns (v .sound .rows at .ready e s has))
+      go State.Committed e = absurd (not-prepared (partAt q s .stage) p ns (v .sound .rows at .prepared e s has))
 
   invariant-report : (k : Ticket) → New q s (k .0) → (k .0 ≡ tick q s) ⊎ ((j : ℕ) → j ≢ at → k .0 ≢ tick (rowAt t j) s) → Invariant (withRow t at (reported q s p k)) es
   unfolding reported

@@ -39,7 +39,7 @@ pub record RowSound (high : ℕ → ℕ) (last : ℕ) (r : Row) : Type 0 where
   pub based : (s : ℕ) → Has r s → base r s ≤ high s
   pub below : IsCommitted r → (s : ℕ) → tick r s ≤ high s
   -- each site of a committed one is prepared
-  pub ready : IsCommitted r → (s : ℕ) → Has r s → partAt r s .stage ≡ Stage.Prepared
+  pub prepared : IsCommitted r → (s : ℕ) → Has r s → partAt r s .stage ≡ Stage.Prepared
 
 -- of two slots
 pub record PairSound (q r : Row) : Type 0 where

@@ -17,7 +17,7 @@ use Rattle.method.specs.Calls.{Call, rules, checks, FirstHolds, NoneHold
 use Rattle.method.specs.Calls.Call.{openWith, begin, reportTicket, reportPrepared, abort, decide, forget, sweep}
 use Rattle.method.specs.Effects.{decided, effect, act, step}
 use Rattle.method.proofs.RecordLaws.{never}
-use Rattle.method.proofs.ConditionLaws.{closed-iff, bad-opening-iff, unknown-iff, bad-sites-iff, not-listed-iff, no-step-iff, not-active-iff, not-committed-iff, not-ready-iff, not-above-iff, taken-iff, full-iff, used-up-iff, may-not-forget-iff}
+use Rattle.method.proofs.ConditionLaws.{closed-iff, bad-opening-iff, unknown-iff, bad-sites-iff, not-listed-iff, no-step-iff, not-active-iff, not-committed-iff, not-prepared-iff, not-above-iff, taken-iff, full-iff, used-up-iff, may-not-forget-iff}
 
 -- a row of conditions and a row of tests, the same check by check
 abbrev Joined : List (ℕ × Type 0) → List (ℕ × Bool) → Type 0
@@ -37,7 +37,7 @@ checks-mean t (reportPrepared n s) =
     let r = rowOfNumber t n in
     (refl, closed-iff t, (refl, unknown-iff t n, (refl, not-listed-iff r s, (refl, no-step-iff r s Report.Prepared, tt))))
 checks-mean t (abort n) = (refl, closed-iff t, (refl, unknown-iff t n, (refl, not-active-iff (rowOfNumber t n), tt)))
-checks-mean t (decide n) = (refl, closed-iff t, (refl, unknown-iff t n, (refl, not-ready-iff (rowOfNumber t n), tt)))
+checks-mean t (decide n) = (refl, closed-iff t, (refl, unknown-iff t n, (refl, not-prepared-iff (rowOfNumber t n), tt)))
 checks-mean t (forget n) =
     (refl, closed-iff t, (refl, unknown-iff t n, (refl, not-committed-iff (rowOfNumber t n), (refl, may-not-forget-iff t (rowOfNumber t n), tt))))
 checks-mean t sweep = (refl, closed-iff t, tt)

@@ -21,7 +21,7 @@ use Rattle.method.specs.declared.Table.{Table}
 use Rattle.method.specs.Records.{partAt, inUse, active, committed, isFree, isPrepared, ticketsOf, Goes, goesb}
 use Rattle.method.specs.Stages.{stepOf}
 use Rattle.method.specs.Slots.{hasNumber, kept, activeRows}
-use Rattle.method.specs.Conditions.{Closed, isClosed, BadOpening, badOpening, Unknown, unknown, BadSites, badSites, NotListed, notListed, NoStep, noStep, NotReady, unprepared, notReady, NotAbove, notAbove, Taken, holdsOther, taken, Full, isFull, UsedUp, usedUp, HasPred, hasPred, HeldBack, heldBack, MayNotForget, mayNotForget}
+use Rattle.method.specs.Conditions.{Closed, isClosed, BadOpening, badOpening, Unknown, unknown, BadSites, badSites, NotListed, notListed, NoStep, noStep, NotPrepared, unprepared, notPrepared, NotAbove, notAbove, Taken, holdsOther, taken, Full, isFull, UsedUp, usedUp, HasPred, hasPred, HeldBack, heldBack, MayNotForget, mayNotForget}
 use Rattle.method.proofs.RecordLaws.{free-iff, active-iff, committed-iff, prepared-iff, refused-iff}
 
 eq-iff : (a b : ℕ) → (eqb a b ≡ true) ↔ (a ≡ b)
@@ -72,8 +72,8 @@ not-active-iff r = iff-not (active r) (active-iff (r .state))
 pub not-committed-iff : (r : Row) → (not (committed r) ≡ true) ↔ (r .state ≢ State.Committed)
 not-committed-iff r = iff-not (committed r) (committed-iff (r .state))
 
-pub not-ready-iff : (r : Row) → (notReady r ≡ true) ↔ NotReady r
-not-ready-iff r = iff-or (not (active r)) (unprepared r) (not-active-iff r) (unprepared-iff r)
+pub not-prepared-iff : (r : Row) → (notPrepared r ≡ true) ↔ NotPrepared r
+not-prepared-iff r = iff-or (not (active r)) (unprepared r) (not-active-iff r) (unprepared-iff r)
 
 pub not-above-iff : (r : Row) (s k : ℕ) → (notAbove r s k ≡ true) ↔ NotAbove r s k
 not-above-iff r s k = le-iff k (partAt r s .base .0)

@@ -11,7 +11,7 @@ use Rattle.method.specs.declared.Report.{Report}
 use Rattle.method.specs.declared.Table.{Table}
 use Rattle.method.specs.Records.{active, committed}
 use Rattle.method.specs.Slots.{rowOfNumber}
-use Rattle.method.specs.Conditions.{Closed, isClosed, BadOpening, badOpening, Unknown, unknown, BadSites, badSites, NotListed, notListed, NoStep, noStep, NotReady, notReady, NotAbove, notAbove, Taken, taken, Full, isFull, UsedUp, usedUp, MayNotForget, mayNotForget}
+use Rattle.method.specs.Conditions.{Closed, isClosed, BadOpening, badOpening, Unknown, unknown, BadSites, badSites, NotListed, notListed, NoStep, noStep, NotPrepared, notPrepared, NotAbove, notAbove, Taken, taken, Full, isFull, UsedUp, usedUp, MayNotForget, mayNotForget}
 
 pub data Call : Type 0 where
   -- the first number, and a floor for each site
@@ -35,7 +35,7 @@ rules t (reportTicket n s k) =
 rules t (reportPrepared n s) =
     (1, Closed t) ∷ (2, Unknown t n) ∷ (3, NotListed (rowOfNumber t n) s) ∷ (4, NoStep (rowOfNumber t n) s Report.Prepared) ∷ []
 rules t (abort n) = (1, Closed t) ∷ (2, Unknown t n) ∷ (4, rowOfNumber t n .state ≢ State.Active) ∷ []
-rules t (decide n) = (1, Closed t) ∷ (2, Unknown t n) ∷ (4, NotReady (rowOfNumber t n)) ∷ []
+rules t (decide n) = (1, Closed t) ∷ (2, Unknown t n) ∷ (4, NotPrepared (rowOfNumber t n)) ∷ []
 rules t (forget n) =
     (1, Closed t) ∷ (2, Unknown t n) ∷ (4, rowOfNumber t n .state ≢ State.Committed) ∷ (9, MayNotForget t (rowOfNumber t n)) ∷ []
 rules t sweep = (1, Closed t) ∷ []
@@ -49,7 +49,7 @@ checks t (reportTicket n s k) =
 checks t (reportPrepared n s) =
     (1, isClosed t) ∷ (2, unknown t n) ∷ (3, notListed (rowOfNumber t n) s) ∷ (4, noStep (rowOfNumber t n) s Report.Prepared) ∷ []
 checks t (abort n) = (1, isClosed t) ∷ (2, unknown t n) ∷ (4, not (active (rowOfNumber t n))) ∷ []
-checks t (decide n) = (1, isClosed t) ∷ (2, unknown t n) ∷ (4, notReady (rowOfNumber t n)) ∷ []
+checks t (decide n) = (1, isClosed t) ∷ (2, unknown t n) ∷ (4, notPrepared (rowOfNumber t n)) ∷ []
 checks t (forget n) =
     (1, isClosed t) ∷ (2, unknown t n) ∷ (4, not (committed (rowOfNumber t n))) ∷ (9, mayNotForget t (rowOfNumber t n)) ∷ []
 checks t sweep = (1, isClosed t) ∷ []

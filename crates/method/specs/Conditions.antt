@@ -62,14 +62,14 @@ abbrev pub noStep : Row → ℕ → Report → Bool
 noStep r s p = isRefused (stepOf (partAt r s .stage) p)
 
 -- 4: it is not active, or some site of it is not prepared
-abbrev pub NotReady : Row → Type 0
-NotReady r = (r .state ≢ State.Active) ⊎ ((s : ℕ) × (s ∈ sitesOf (r .sites)) × (partAt r s .stage ≢ Stage.Prepared))
+abbrev pub NotPrepared : Row → Type 0
+NotPrepared r = (r .state ≢ State.Active) ⊎ ((s : ℕ) × (s ∈ sitesOf (r .sites)) × (partAt r s .stage ≢ Stage.Prepared))
 
 unfoldable pub unprepared : Row → Bool
 unprepared r = anyOf (λ s. not (isPrepared (partAt r s .stage))) (sitesOf (r .sites))
 
-abbrev pub notReady : Row → Bool
-notReady r = not (active r) || unprepared r
+abbrev pub notPrepared : Row → Bool
+notPrepared r = not (active r) || unprepared r
 
 -- 5: the ticket is not above the base
 abbrev pub NotAbove : Row → ℕ → ℕ → Type 0

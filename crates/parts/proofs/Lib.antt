@@ -1,1 +1,1 @@
-pub mod ReadyLaws
+pub mod PreparedLaws

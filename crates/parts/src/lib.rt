@@ -7,7 +7,7 @@ ghost use lib.ListN.{length};
 ghost use Rattle.graph.specs.Lists.{keep};
 ghost use Rattle.sites.specs.Sites.{sitesOf};
 ghost use Rattle.method.specs.Records.{ticket, isPrepared, partAt};
-ghost use Rattle.method.specs.Conditions.{notReady};
+ghost use Rattle.method.specs.Conditions.{notPrepared};
 ghost use Rattle.method.specs.Effects.{raised as raisedTickets};
 ghost use Rattle.parts.specs.Counted.{counted};
 use method::Row;
@@ -42,8 +42,8 @@ fn prepared_sites(row: Row) -> u32
 }
 
 // Active, and as many sites prepared as it uses.
-pub fn is_ready(row: Row) -> bool
-    ensures answer { λ r. ⌜ r ≡ not (notReady row) ⌝ }
+pub fn is_prepared(row: Row) -> bool
+    ensures answer { λ r. ⌜ r ≡ not (notPrepared row) ⌝ }
 {
     let state = row.state;
     if !records::is_active(state) {

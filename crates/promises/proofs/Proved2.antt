@@ -28,7 +28,7 @@ use Rattle.method.specs.declared.Answer.{Answer}
 use Rattle.method.specs.declared.Answered.{Answered}
 use Rattle.method.specs.Records.{freeRow, rowAt, Goes, withRow}
 use Rattle.method.specs.Slots.{slotOf, rowOfNumber, kept}
-use Rattle.method.specs.Conditions.{Closed, Unknown, NotReady, HeldBack}
+use Rattle.method.specs.Conditions.{Closed, Unknown, NotPrepared, HeldBack}
 use Rattle.method.specs.Calls.{rules}
 use Rattle.method.specs.Calls.Call.{decide, forget, sweep}
 use Rattle.method.specs.Effects.{committedRow, decided, stays, sweptRow, sweptTable, sweptCount, effect, step}
@@ -86,7 +86,7 @@ commits-row t n e nu =
       last = refl;
     }
 
-decision : (t : Table) (n : ℕ) → length (t .high) ≡ 8 → ¬ Closed t → ¬ Unknown t n → ¬ NotReady (rowOfNumber t n) → Decision t n (step t (decide n) .answer) (step t (decide n) .table)
+decision : (t : Table) (n : ℕ) → length (t .high) ≡ 8 → ¬ Closed t → ¬ Unknown t n → ¬ NotPrepared (rowOfNumber t n) → Decision t n (step t (decide n) .answer) (step t (decide n) .table)
 unfolding rules decided
 decision t n e nc nu nr = elim (step-decides t n (nc, (nu, (nr, tt)))) [
   | no-cycle f p ↦ rw p (commits f refl (commits-row t n e nu))

@@ -15,7 +15,7 @@ use Rattle.method.specs.declared.Table.{Table}
 use Rattle.method.specs.declared.Answer.{Answer}
 use Rattle.method.specs.Records.{number, rowOf, freeRow, rowAt, partAt, highAt, Goes}
 use Rattle.method.specs.Slots.{slotOf, rowOfNumber, kept}
-use Rattle.method.specs.Conditions.{Closed, Unknown, NotReady, HasPred, HeldBack}
+use Rattle.method.specs.Conditions.{Closed, Unknown, NotPrepared, HasPred, HeldBack}
 use Rattle.method.specs.Calls.Call.{decide, forget, sweep}
 use Rattle.method.specs.Effects.{step}
 use Rattle.method.specs.Seen.{Active, Kept}
@@ -79,7 +79,7 @@ pub data Decision (t : Table) (n : ℕ) (a : Answer) (u : Table) : Type 0 where
 -- on every table, so at every decision. A table has eight highest tickets.
 abbrev pub CommitsExactly : Type 0
 CommitsExactly = (t : held.Table) (n : ℕ) (a : Answer) (u : held.Table) → CallGives t (decide n) a u
-    → length (t .held .high) ≡ 8 → ¬ Closed (t .held) → ¬ Unknown (t .held) n → ¬ NotReady (rowOfNumber (t .held) n) → Decision (t .held) n a (u .held)
+    → length (t .held .high) ≡ 8 → ¬ Closed (t .held) → ¬ Unknown (t .held) n → ¬ NotPrepared (rowOfNumber (t .held) n) → Decision (t .held) n a (u .held)
 
 -- where the slot of a known number is, which the above speak of
 abbrev pub SlotFound : Type 0

@@ -35,7 +35,7 @@ use Rattle.invariant.proofs.KnownLaws.{found, changed}
 use Rattle.invariant.proofs.InvariantLaws.{closed-of-not-not}
 use Rattle.invariant.proofs.OpenLaws.{begin-slot}
 use Rattle.invariant.proofs.ReportLaws.{is-active, inside, has, above-base}
-use Rattle.invariant.proofs.DecideLaws.{is-ready, raised-at}
+use Rattle.invariant.proofs.DecideLaws.{is-active as is-active-of-decide, raised-at}
 use Rattle.invariant.proofs.SweepLaws.{slot-cases}
 
 -- from a table, by a call and its answer, to the next table
@@ -91,7 +91,7 @@ module _ (t : Table) (es : List Entry) (v : Invariant t es) where
     where
       go : (x : Bool) → To (decide m) (decided t m x)
       go true = let g = found t m b in
-          commits m a refl refl (is-ready t es v m a b c) (g .named) (changed t (slotOf t m) (committedRow t (rowOfNumber t m)) (g .slot)) refl refl (raised-at t es v m a b c)
+          commits m a refl refl (is-active-of-decide t es v m a b c) (g .named) (changed t (slotOf t m) (committedRow t (rowOfNumber t m)) (g .slot)) refl refl (raised-at t es v m a b c)
       go false = let g = found t m b in
           frees m (slotOf t m) a (inl (inr (refl, refl))) (g .used) (g .named) (changed t (slotOf t m) freeRow (g .slot)) (same _ _ _ refl refl refl)
   change-effect (forget m) (a, (b, (c, (d, n)))) =

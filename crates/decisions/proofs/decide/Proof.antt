@@ -8,7 +8,7 @@ use borrow.Author.Needs.{needs}
 use borrow.Author.Tests.{not-true, not-false}
 use Rattle.method.specs.declared.Table.{Table}
 use Rattle.method.specs.Records.{rowAt}
-use Rattle.method.specs.Conditions.{notReady}
+use Rattle.method.specs.Conditions.{notPrepared}
 use Rattle.method.proofs.SearchLaws.{unmapped}
 use Rattle.slots.specs.declared.Gate.{Gate}
 use Rattle.slots.specs.Gate.{gateOf}
@@ -59,8 +59,8 @@ mul-row c = omega (arith, inside c)
 element-copy-out-row : tie.Need-element-copy-out-row
 element-copy-out-row c = inside c
 
-is-ready-requires : tie.Need-is-ready-requires
-is-ready-requires c κs = search needs
+is-prepared-requires : tie.Need-is-prepared-requires
+is-prepared-requires c κs = search needs
 
 refuse-requires-2 : tie.Need-refuse-requires-2
 refuse-requires-2 c κs = search needs
@@ -69,7 +69,7 @@ returns : tie.Need-returns
 returns c =
     let f = c .before .before .before .before in
     let e = gate f in
-    c .refuse2 .ensures ∙ sym (decide-early (t e) (slots e) (n e) (slot f) (at f) (not-false _ (sym (c .before .before .is-ready .ensures) ∙ not-true _ (c .before .if1 .taken))))
+    c .refuse2 .ensures ∙ sym (decide-early (t e) (slots e) (n e) (slot f) (at f) (not-false _ (sym (c .before .before .is-prepared .ensures) ∙ not-true _ (c .before .if1 .taken))))
 
 aligned-requires : tie.Need-aligned-requires
 aligned-requires c κs = search needs
@@ -82,8 +82,8 @@ module _ (c : tie.After-has-cycle) where
   abbrev found : tie.After-known-told2
   found = c .before .before .before .before .before
 
-  ready : notReady (rowAt (t (gate found)) (slot found)) ≡ false
-  ready = not-true _ (sym (c .before .before .before .is-ready .ensures) ∙ not-false _ (c .before .before .if1 .left))
+  prepared : notPrepared (rowAt (t (gate found)) (slot found)) ≡ false
+  prepared = not-true _ (sym (c .before .before .before .is-prepared .ensures) ∙ not-false _ (c .before .before .if1 .left))
 
 cancel-requires : tie.Need-cancel-requires
 cancel-requires c κs = inside (found (c .before))
@@ -94,7 +94,7 @@ returns-2 c =
     let f = found h in
     let e = gate f in
     c .cancel .ensures
-    ∙ sym (decide-cycle (t e) (slots e) (n e) (slot f) (at f) (ready h) (h .before .aligned .result) (h .before .aligned .ensures) (h .has-cycle .result) (h .has-cycle .ensures) (c .before .if2 .taken))
+    ∙ sym (decide-cycle (t e) (slots e) (n e) (slot f) (at f) (prepared h) (h .before .aligned .result) (h .before .aligned .ensures) (h .has-cycle .result) (h .has-cycle .ensures) (c .before .if2 .taken))
 
 commit-requires : tie.Need-commit-requires
 commit-requires c κs = inside (found (c .before))
@@ -111,7 +111,7 @@ returns-4 c =
     let f = found h in
     let e = gate f in
     c .commit .ensures
-    ∙ sym (decide-commit (t e) (slots e) (n e) (slot f) (at f) (ready h) (h .before .aligned .result) (h .before .aligned .ensures) (h .has-cycle .result) (h .has-cycle .ensures) (c .before .if2 .left))
+    ∙ sym (decide-commit (t e) (slots e) (n e) (slot f) (at f) (prepared h) (h .before .aligned .result) (h .before .aligned .ensures) (h .has-cycle .result) (h .has-cycle .ensures) (c .before .if2 .left))
 
 pub decide-spec : {M : Type 1} → statement M
 decide-spec =
@@ -123,7 +123,7 @@ decide-spec =
     enum-known-slot
     mul-row
     element-copy-out-row
-    is-ready-requires
+    is-prepared-requires
     refuse-requires-2
     returns
     aligned-requires

@@ -11,7 +11,7 @@ use Rattle.sites.proofs.SitesLaws.{used-le}
 use Rattle.sites.proofs.ByteLaws.{turn, sites-zero}
 use Rattle.method.specs.Records.{partAt}
 use Rattle.parts.specs.Counted.{counted}
-use Rattle.parts.proofs.ReadyLaws.{prepared, counted-le, prepared-more}
+use Rattle.parts.proofs.PreparedLaws.{prepared, counted-le, prepared-more}
 use Rattle.parts.proofs.prepared_sites.Statement.{statement}
 use Rattle.parts.proofs.prepared_sites.Tie as tie
 

@@ -13,7 +13,7 @@ use Rattle.sites.specs.Sites.{sitesOf, sitesUsed}
 use Rattle.method.specs.declared.Stage.{Stage}
 use Rattle.method.specs.declared.Row.{Row}
 use Rattle.method.specs.Records.{isPrepared, partAt, active}
-use Rattle.method.specs.Conditions.{unprepared, notReady}
+use Rattle.method.specs.Conditions.{unprepared, notPrepared}
 use Rattle.parts.specs.Counted.{counted}
 
 abbrev pub prepared : Row → List ℕ → ℕ
@@ -40,6 +40,6 @@ all-kept f (x ∷ xs) = go (f x) (all-kept f xs)
     go true e = rw (compare·suc-suc (length (keep f xs)) (length xs)) e
     go false e = sym (ne-eqb (length (keep f xs)) (suc (length xs)) (λ q. omega (arith, length-keep-le f xs)))
 
-pub ready-of-counts : (r : Row) → active r ≡ true → eqb (prepared r (sitesOf (r .sites))) (sitesUsed (r .sites)) ≡ not (notReady r)
+pub prepared-of-counts : (r : Row) → active r ≡ true → eqb (prepared r (sitesOf (r .sites))) (sitesUsed (r .sites)) ≡ not (notPrepared r)
 unfolding unprepared
-ready-of-counts r e = sym (rw e (all-kept (λ s. isPrepared (partAt r s .stage)) (sitesOf (r .sites))))
+prepared-of-counts r e = sym (rw e (all-kept (λ s. isPrepared (partAt r s .stage)) (sitesOf (r .sites))))

@@ -1,10 +1,10 @@
--- `parts::is_ready` meets its contract. Assumes nothing.
+-- `parts::is_prepared` meets its contract. Assumes nothing.
 use mathlib.Core.Path.{sym, _∙_}
 use borrow.Author.Needs.{needs}
 use borrow.Author.Tests.{not-false}
-use Rattle.parts.proofs.ReadyLaws.{ready-of-counts}
-use Rattle.parts.proofs.is_ready.Statement.{statement}
-use Rattle.parts.proofs.is_ready.Tie as tie
+use Rattle.parts.proofs.PreparedLaws.{prepared-of-counts}
+use Rattle.parts.proofs.is_prepared.Statement.{statement}
+use Rattle.parts.proofs.is_prepared.Tie as tie
 
 is-active-requires : tie.Need-is-active-requires
 is-active-requires c κs = search needs
@@ -22,7 +22,7 @@ returns-2 : tie.Need-returns-2
 returns-2 c =
     let r = c .before .before .before .before .args .row in
     rw (c .before .prepared-sites .ensures, c .used .ensures)
-    (ready-of-counts r (sym (c .before .before .before .is-active .ensures) ∙ not-false _ (c .before .before .if1 .left)))
+    (prepared-of-counts r (sym (c .before .before .before .is-active .ensures) ∙ not-false _ (c .before .before .if1 .left)))
 
-pub is-ready-spec : {M : Type 1} → statement M
-is-ready-spec = tie.close (tie.spec is-active-requires returns prepared-sites-requires used-requires returns-2)
+pub is-prepared-spec : {M : Type 1} → statement M
+is-prepared-spec = tie.close (tie.spec is-active-requires returns prepared-sites-requires used-requires returns-2)
