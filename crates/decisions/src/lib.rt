@@ -62,7 +62,7 @@ pub fn decide(t: Table, n: Number) -> Answered
             if !parts::is_prepared(row) {
                 return records::refuse(t, 4);
             }
-            let flat = kept::aligned(t, slot);
+            let flat = kept::aligned::tickets(t, slot);
             if paths::has_cycle(flat) {
                 return cancel(t, slot, n);
             }

@@ -8,7 +8,8 @@ use mathlib.Core.Logic.{_≢_, _⊎_, inl, inr}
 use Prim.Native.Nat.{ℕ, _<_, _≤_, max}
 use native.Mathlib.Omega.{arith}
 use native.Mathlib.Decide.{decLe}
-use lib.ListN.{length, getD}
+use lib.ListN.{length, getD, set}
+use lib.Seq.{getD-set-same}
 use Rattle.graph.specs.Lists.{_∈_}
 use Rattle.graph.specs.Path.{Cycle}
 use Rattle.graph.proofs.MemberLaws.{member-or-not}
@@ -24,11 +25,12 @@ use Rattle.method.specs.declared.State.{State}
 use Rattle.method.specs.declared.Row.{Row}
 use Rattle.method.specs.declared.Table.{Table}
 use Rattle.method.specs.Records.{ticket, pastEnd, rowAt, partAt, highAt, isPrepared, committed, ticketsOf, Goes}
-use Rattle.method.specs.Slots.{slotOf, rowOfNumber, kept, entryOf}
+use Rattle.method.specs.Slots.{hasNumber, slotOf, rowOfNumber, kept, entryOf}
 use Rattle.method.specs.Conditions.{Closed, Unknown, NotPrepared}
 use Rattle.method.specs.Effects.{committedRow, raised, decided}
 use Rattle.method.proofs.RecordLaws.{never, prepared-iff, committed-iff}
-use Rattle.method.proofs.SlotLaws.{kept-of-place, place-of-kept}
+use Rattle.method.proofs.SlotLaws.{first-of-set, kept-of-place, place-of-kept}
+use Rattle.method.proofs.ConditionLaws.{has-number-iff}
 use Rattle.method.proofs.RowLaws.{ticket-part, length-raised, raised-other, raised-listed}
 use Rattle.method.specs.Seen.{IsActive, IsCommitted, Has, tick}
 use Rattle.invariant.specs.Sound.{Differs, Sound}
@@ -99,6 +101,17 @@ module _ (t : Table) (es : List Entry) (v : Invariant t es) (n : ℕ) (nc : ¬ C
       none : Dec (tick q s ≤ 0) → tick q s ≤ high′ s
       none (yes l) = omega arith
       none (no l) = elim (raised-at s) [ inl e ↦ omega (arith, e .1) | inr e ↦ absurd (e .0 (v .sound .rows at .listed s (omega arith))) ]
+
+  -- the number still stands in its slot, and the row there is the committed one
+  pub row-committed : rowOfNumber (decided t n true .table) n ≡ committedRow t q
+  unfolding decided committedRow slotOf
+  row-committed =
+      ap (λ (i : ℕ). getD (set (t .rows) at (committedRow t q)) i pastEnd) (first-of-set (hasNumber n) (t .rows) (committedRow t q) (has-number-iff n (committedRow t q) .1 ((λ f. never (cc)), found t n nu .named)) slot)
+      ∙ getD-set-same (t .rows) at (committedRow t q) pastEnd slot
+
+  pub entry-committed : entryOf (rowOfNumber (decided t n true .table) n) ≡ entryOf q
+  unfolding committedRow entryOf ticketsOf
+  entry-committed = ap entryOf row-committed
 
   -- what the optimistic method owes: the test, and that no two slots hold the same ticket
   pub fits-of-test : ¬ Cycle Goes (q ∷ kept t) → Fits t q

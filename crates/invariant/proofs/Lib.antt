@@ -14,3 +14,4 @@ pub mod DecideLaws
 pub mod SweepLaws
 pub mod InvariantLaws
 pub mod KeptLaws
+pub mod StandingLaws

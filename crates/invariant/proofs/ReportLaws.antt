@@ -27,7 +27,7 @@ use Rattle.method.specs.Conditions.{Closed, Unknown, NotListed, NoStep, NotAbov
 use Rattle.method.specs.Effects.{reported, effect}
 use Rattle.method.specs.Calls.Call.{reportTicket, reportPrepared}
 use Rattle.method.proofs.RecordLaws.{never}
-use Rattle.method.proofs.StageLaws.{begun-of-step, ticketed-of-step}
+use Rattle.method.proofs.StageLaws.{not-prepared-of-step}
 use Rattle.method.proofs.RowLaws.{ticket-part, reported-same, reported-other, length-reported}
 use Rattle.method.specs.Seen.{IsFree, IsActive, IsCommitted, num, Has, base, tick}
 use Rattle.invariant.specs.Sound.{Sound}
@@ -77,11 +77,6 @@ module _ (row : ℕ → Row) (i s : ℕ) (p : Report) (k : Ticket) (l : s < leng
   unfolding reported
   marked a = record { was = a; is = a; number = refl; last = refl; sites = λ u h. h; sites′ = λ u h. h; bases = bases; tickets = tickets }
 
--- a step that the stage table has leads from a site that is not prepared
-not-prepared : (g : Stage) (p : Report) → ¬ (stepOf g p ≡ Step.Refused) → g ≢ Stage.Prepared
-not-prepared g Report.Ticket h e = let z = begun-of-step g h in never (cc)
-not-prepared g Report.Prepared h e = let z = ticketed-of-step g h in never (cc)
-
 module _ (t : Table) (es : List Entry) (v : Invariant t es) (n s : ℕ) (p : Report)
     (nc : ¬ Closed t) (nu : ¬ Unknown t n) (nl : ¬ NotListed (rowOfNumber t n) s) (ns : ¬ NoStep (rowOfNumber t n) s p) where
   abbrev q : Row
@@ -110,7 +105,7 @@ module _ (t : Table) (es : List Entry) (v : Invariant t es) (n s : ℕ) (p : Rep
       go : (x : State) → q .state ≡ x → IsActive q
       go State.Free e = absurd (found t n nu .used e)
       go State.Active e = e
-      go State.Committed e = absurd (not-prepared (partAt q s .stage) p ns (v .sound .rows at .prepared e s has))
+      go State.Committed e = absurd (not-prepared-of-step (partAt q s .stage) p ns (v .sound .rows at .prepared e s has))
 
   invariant-report : (k : Ticket) → New q s (k .0) → (k .0 ≡ tick q s) ⊎ ((j : ℕ) → j ≢ at → k .0 ≢ tick (rowAt t j) s) → Invariant (withRow t at (reported q s p k)) es
   unfolding reported

@@ -65,13 +65,18 @@ module _ (t : Table) where
       go (inl e) = absurd (n (committed-iff (rowAt t j .state) .0 e))
       go (inr e) = rw e
 
-  pub slot-cases : (j : ℕ) → (row′ j ≡ rowAt t j) ⊎ (row′ j ≡ freeRow)
-  unfolding sweptRow
-  slot-cases j = go (committed (rowAt t j) && not (stays t (rowAt t j))) (swept-slot j)
-    where
-      go : (b : Bool) → row′ j ≡ cond b freeRow (rowAt t j) → (row′ j ≡ rowAt t j) ⊎ (row′ j ≡ freeRow)
-      go true e = inr e
-      go false e = inl e
+  -- so a slot is as it was, or was committed and is free
+  pub slot-swept : (j : ℕ) → (row′ j ≡ rowAt t j) ⊎ (IsCommitted (rowAt t j) × (row′ j ≡ freeRow))
+  slot-swept j = elim (true-or-false (stays t (rowAt t j))) [
+    | inl s ↦ inl (slot-stays j s)
+    | inr s ↦ elim (true-or-false (committed (rowAt t j))) [
+      | inl c ↦ let k = committed-iff (rowAt t j .state) .0 c in inr (k, slot-goes j k s)
+      | inr c ↦ inl (slot-other j (λ k. true-not-false (committed-iff (rowAt t j .state) .1 k) c))
+    ]
+  ]
+
+  slot-cases : (j : ℕ) → (row′ j ≡ rowAt t j) ⊎ (row′ j ≡ freeRow)
+  slot-cases j = elim (slot-swept j) [ inl e ↦ inl e | inr e ↦ inr (e .1) ]
 
   -- one that does not stay is not held back, and nothing that stays has an arrow to it
   module _ (i : ℕ) (c : IsCommitted (rowAt t i)) (s : stays t (rowAt t i) ≡ false) where

@@ -1,4 +1,5 @@
--- What a step adds to all that was ever committed: a row for a commit, nothing for any other answer.
+-- What a step adds to all that was ever committed: for a commit its row, as the table after the step has it; for any other answer
+-- nothing.
 use mathlib.Core.List.{List, _∷_}
 use Rattle.orders.specs.Entries.{Entry}
 use Rattle.method.specs.declared.Table.{Table}
@@ -6,9 +7,9 @@ use Rattle.method.specs.declared.Answer.{Answer}
 use Rattle.method.specs.Slots.{rowOfNumber, entryOf}
 
 abbrev pub noted : Table → Answer → List Entry → List Entry
-noted t Answer.Done es = es
-noted t (Answer.Begun n) es = es
-noted t (Answer.Commit n) es = entryOf (rowOfNumber t (n .0)) ∷ es
-noted t (Answer.Cycle n) es = es
-noted t (Answer.Swept k) es = es
-noted t (Answer.Refused k) es = es
+noted u Answer.Done es = es
+noted u (Answer.Begun n) es = es
+noted u (Answer.Commit n) es = entryOf (rowOfNumber u (n .0)) ∷ es
+noted u (Answer.Cycle n) es = es
+noted u (Answer.Swept k) es = es
+noted u (Answer.Refused k) es = es

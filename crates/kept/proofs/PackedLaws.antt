@@ -18,7 +18,7 @@ use Rattle.method.specs.declared.Table.{Table}
 use Rattle.method.specs.Records.{committed, ticketsOf}
 use Rattle.method.specs.Slots.{entryOf, kept, keptFlat}
 use Rattle.method.proofs.RowLaws.{length-tickets}
-use Rattle.kept.specs.declared.Kept.{Kept}
+use Rattle.kept.specs.declared.packed.Kept.{Kept}
 use Rattle.kept.specs.Packed.{keptOf, zeros, entries, grown, packedOf, packedRows}
 
 -- the entries of those of a list of rows that are committed, and how many rows they are

@@ -10,7 +10,7 @@ use Rattle.method.specs.declared.Row.{Row}
 use Rattle.method.specs.declared.Table.{Table}
 use Rattle.method.specs.Records.{committed, ticketsOf}
 use Rattle.method.specs.Slots.{entryOf, kept, keptFlat}
-use Rattle.kept.specs.declared.Kept.{Kept}
+use Rattle.kept.specs.declared.packed.Kept.{Kept}
 
 abbrev pub keptOf : ℕ → List ℕ → Kept
 keptOf n rows = record { count = n; rows = rows }

@@ -1,5 +1,5 @@
 -- The first that passes, and the members that pass, by their places. A place past the end reads as the default. Assumes nothing.
-use mathlib.Core.Path.{_≡_, refl, ap}
+use mathlib.Core.Path.{_≡_, refl, ap, _∙_}
 use mathlib.Core.Bool.{Bool, true, false, false≢true}
 use mathlib.Core.List.{List, [], _∷_}
 use mathlib.Core.Logic.{_≢_, _⊎_, inl, inr}
@@ -44,6 +44,16 @@ module _ {A : Type 0} (f : A → Bool) where
       go (inl p) i h rest = absurd (omega (arith, first-of-true x xs p))
       go (inr p) zero h rest = p
       go (inr p) (suc i) h rest = rest i (omega (arith, first-of-false x xs p))
+
+  -- the first that passes is exchanged for another that passes: it is still the first
+  pub first-of-set : (xs : List A) (y : A) → f y ≡ true → firstAt f xs < length xs → firstAt f (set xs (firstAt f xs) y) ≡ firstAt f xs
+  first-of-set [] y p h = absurd (not-suc-le-zero h)
+  first-of-set (x ∷ xs) y p h = go (true-or-false (f x)) (first-of-set xs y p)
+    where
+      go : (f x ≡ true) ⊎ (f x ≡ false) → (firstAt f xs < length xs → firstAt f (set xs (firstAt f xs) y) ≡ firstAt f xs)
+          → firstAt f (set (x ∷ xs) (firstAt f (x ∷ xs)) y) ≡ firstAt f (x ∷ xs)
+      go (inl e) rest = rw (first-of-true x xs e) (first-of-true y xs p)
+      go (inr e) rest = rw (first-of-false x xs e) (first-of-false x (set xs (firstAt f xs) y) e ∙ ap suc (rest (omega (arith, first-of-false x xs e))))
 
   -- where none passes, it is past the last place
   pub first-missing : (xs : List A) → anyOf f xs ≡ false → firstAt f xs ≡ length xs

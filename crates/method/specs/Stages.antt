@@ -35,3 +35,12 @@ stageNo Stage.Prepared = 2
 abbrev pub reportNo : Report → ℕ
 reportNo Report.Ticket = 0
 reportNo Report.Prepared = 1
+
+-- a site at this stage has had this report: the ticket from ticketed on, prepared at prepared. proofs/StageLaws.antt holds it to the table.
+abbrev pub given : Report → Stage → Bool
+given Report.Ticket Stage.Begun = false
+given Report.Ticket Stage.Ticketed = true
+given Report.Ticket Stage.Prepared = true
+given Report.Prepared Stage.Begun = false
+given Report.Prepared Stage.Ticketed = false
+given Report.Prepared Stage.Prepared = true

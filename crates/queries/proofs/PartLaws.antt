@@ -8,7 +8,7 @@ use lib.Seq.{take-at}
 use Rattle.endian.specs.Laid.{laid}
 use Rattle.method.specs.declared.Table.{Table}
 use Rattle.method.specs.Slots.{keptFlat}
-use Rattle.kept.specs.declared.Kept.{Kept}
+use Rattle.kept.specs.declared.packed.Kept.{Kept}
 use Rattle.kept.specs.Packed.{packedOf, zeros}
 use Rattle.orders.specs.Order.{checkResult}
 use Rattle.orders.specs.Reply.{Reply}

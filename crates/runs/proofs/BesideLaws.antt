@@ -21,10 +21,11 @@ use Rattle.runs.specs.History.{history}
 use Rattle.invariant.proofs.ChangeLaws.{Changed, both, not-committed, not-free}
 use Rattle.invariant.proofs.OpenLaws.{invariant-closed, free-after-open}
 use Rattle.runs.proofs.HistoryLaws.{invariant-run}
-use Rattle.runs.proofs.StepLaws.{Change, Change.refuses, Change.opens, Change.begins, Change.tickets, Change.prepares, Change.commits, Change.frees, Change.sweeps}
-use Rattle.runs.proofs.CensusLaws.{closed-free, one-slot, last-grows}
+use Rattle.runs.proofs.StepLaws.{Change, Change.refuses, Change.opens, Change.begins, Change.reports, Change.commits, Change.clears}
+use Rattle.invariant.proofs.StandingLaws.{closed-free, one-slot}
+use Rattle.runs.proofs.CensusLaws.{last-grows}
 use Rattle.runs.proofs.PresentLaws.{change-of-run}
-use Rattle.runs.proofs.RowFollowLaws.{later-iff}
+use Rattle.runs.proofs.EventLaws.{later-iff}
 
 -- whoever was active at some commit has a number that was given by now
 counted-beside : (n m : ℕ) (r : Run) → Happened (CommitsBeside n m) r → m ≤ after r .last .0
@@ -63,20 +64,18 @@ module _ (r : Run) (c : Call) (v : (i j : ℕ) → i ≢ j → Told r (rowAt (af
 
   beside-step : Change t c a u → (j k : ℕ) → j ≢ k → Told (call r c) (rowAt u j) (rowAt u k)
   unfolding newRow reported committedRow Happened
-  beside-step (refuses x e p) j k d = subst (λ (z : Table). Told (call r c) (rowAt z j) (rowAt z k)) (sym p) (carried j k d (λ y. never (cc)))
-  beside-step (opens first floors e f cl b p) j k d = λ cm. absurd (let z = ap (λ (y : Table). rowAt y j .state) p ∙ free-after-open first floors j .free in never (cc))
-  beside-step (begins sites i nc e f fr ch l h w) j k d = quiet (λ n y. never (cc)) i (newRow t sites) ch (λ y. never (cc))
+  beside-step (refuses x e st p) j k d = subst (λ (z : Table). Told (call r c) (rowAt z j) (rowAt z k)) (sym p) (carried j k d (λ y. never (cc)))
+  beside-step (opens first floors e f st cl b p) j k d = λ cm. absurd (let z = ap (λ (y : Table). rowAt y j .state) p ∙ free-after-open first floors j .free in never (cc))
+  beside-step (begins sites i e f st nc fr ch l h w) j k d = quiet (λ n y. never (cc)) i (newRow t sites) ch (λ y. never (cc))
       (λ y z cm ac. (
         λ x. absurd (omega (arith, invariant-run r .sound .rows y .marked)),
         λ x. elim x [ inl g ↦ never (cc) | inr g ↦ absurd (omega (arith, counted-beside _ _ r g)) ],
       )) j k d
-  beside-step (tickets m s x i nc e f pos ac nm hs ins st ch sm) j k d =
-      quiet (λ n y. never (cc)) i _ ch (λ y. not-committed ac y) (same-active (λ n y. never (cc)) i _ ch ac refl) j k d
-  beside-step (prepares m s i nc e f ac nm hs ins st ch sm) j k d =
-      quiet (λ n y. never (cc)) i _ ch (λ y. not-committed ac y) (same-active (λ n y. never (cc)) i _ ch ac refl) j k d
-  beside-step (commits m nc e f ac nm ch l w h) j k d = both ch (Told (call r c))
+  beside-step (reports p m s x i e f st w sm) j k d =
+      quiet (λ n y. never (cc)) i _ (w .changed) (λ y. not-committed (w .active) y) (same-active (λ n y. never (cc)) i _ (w .changed) (w .active) refl) j k d
+  beside-step (commits m e f st w) j k d = both (w .changed) (Told (call r c))
       (λ y z cm ay. (
-        λ x. inl ((e ∙ ap {B = Call} decide (sym nm), f ∙ ap {B = Answer} (λ (n : ℕ). Answer.Commit (number n)) (sym nm)), (y, ay, refl)),
+        λ x. inl ((e ∙ ap {B = Call} decide (sym (w .named)), f ∙ ap {B = Answer} (λ (n : ℕ). Answer.Commit (number n)) (sym (w .named))), (y, ay, refl)),
         λ x. invariant-run r .sound .rows y .counted,
       ))
       (λ y z cm ay. never (cc))
@@ -86,20 +85,17 @@ module _ (r : Run) (c : Call) (v : (i j : ℕ) → i ≢ j → Told r (rowAt (af
       told-other y z g cm = carried y z g (λ x. clash (let q : decide m ≡ decide (num (rowAt t y)) = cc in cc) (ℕ-discrete y (slotOf t m))) cm
         where
           clash : m ≡ num (rowAt t y) → Dec (y ≡ slotOf t m) → ⊥
-          clash q (yes i) = not-committed ac (rw i at cm)
-          clash q (no i) = one-slot t (history r) (invariant-run r) c (slotOf t m) y m i (not-free ac) (λ w. never (cc)) nm (sym q)
-  beside-step (frees m i nc (inl (inl y)) g nm ch sm) j k d = quiet (λ n x. never (cc)) i freeRow ch (λ x. never (cc)) (λ x z cm ac. never (cc)) j k d
-  beside-step (frees m i nc (inl (inr y)) g nm ch sm) j k d = quiet (λ n x. never (cc)) i freeRow ch (λ x. never (cc)) (λ x z cm ac. never (cc)) j k d
-  beside-step (frees m i nc (inr y) g nm ch sm) j k d = quiet (λ n x. never (cc)) i freeRow ch (λ x. never (cc)) (λ x z cm ac. never (cc)) j k d
-  beside-step (sweeps x nc e f sl sm) j k d = elim (sl j) [
-    | inl p ↦ elim (sl k) [
-      | inl q ↦ subst (λ (z : Row). Told (call r c) z (rowAt u k)) (sym p) (subst (Told (call r c) (rowAt t j)) (sym q) (carried j k d (λ y. never (cc))))
-      | inr q ↦ subst (Told (call r c) (rowAt u j)) (sym q) (λ cm ac. never (cc))
+          clash q (yes i) = not-committed (w .active) (rw i at cm)
+          clash q (no i) = one-slot t (history r) (invariant-run r) (slotOf t m) y m i (not-free (w .active)) (λ w. never (cc)) (w .named) (sym q)
+  beside-step (clears q w sm) j k d = elim (w .slots j) [
+    | inl x ↦ elim (w .slots k) [
+      | inl y ↦ subst (λ (z : Row). Told (call r c) z (rowAt u k)) (sym x) (subst (Told (call r c) (rowAt t j)) (sym y) (carried j k d (q .commits (num (rowAt t j)))))
+      | inr y ↦ subst (Told (call r c) (rowAt u j)) (sym (y .0)) (λ cm ac. never (cc))
     ]
-    | inr p ↦ subst (λ (z : Row). Told (call r c) z (rowAt u k)) (sym p) (λ cm. never (cc))
+    | inr x ↦ subst (λ (z : Row). Told (call r c) z (rowAt u k)) (sym (x .0)) (λ cm. never (cc))
   ]
 
 pub beside : (r : Run) (i j : ℕ) → i ≢ j → Told r (rowAt (after r) i) (rowAt (after r) j)
 unfolding after
-beside start i j d cm = let z = closed-free closed _ invariant-closed sweep refl i in never (cc)
+beside start i j d cm = let z = closed-free closed _ invariant-closed refl i in never (cc)
 beside (call r c) i j d cm = beside-step r c (beside r) (change-of-run r c) i j d cm

@@ -27,7 +27,8 @@ use Rattle.runs.specs.History.{history}
 use Rattle.method.specs.Seen.{Has, tick}
 use Rattle.runs.specs.Follows.{Greatest}
 use Rattle.runs.proofs.HistoryLaws.{invariant-run}
-use Rattle.runs.proofs.StepLaws.{Change, Change.refuses, Change.opens, Change.begins, Change.tickets, Change.prepares, Change.commits, Change.frees, Change.sweeps}
+use Rattle.runs.proofs.StepLaws.{Change, Change.refuses, Change.opens, Change.begins, Change.reports, Change.commits, Change.clears, Seals}
+use Rattle.runs.proofs.EventLaws.{no-report-open}
 use Rattle.runs.proofs.CensusLaws.{refused-of-closed}
 use Rattle.runs.proofs.PresentLaws.{change-of-run}
 
@@ -60,8 +61,8 @@ module _ (r : Run) (c : Call) (v : Counts r) where
   a = answerTo r c
 
   -- a step that opens nothing and leaves highest tickets, last number and history as they were
-  still : (first : ℕ) (floors : List ℕ) → ¬ Opens first floors t c a → ((s : ℕ) → highAt u s ≡ highAt t s) → noted t a (history r) ≡ history r
-      → Happened (Opens first floors) (call r c) → (s : ℕ) → s < length floors → Greatest (highAt u s) (getD floors s 0) (noted t a (history r)) s
+  still : (first : ℕ) (floors : List ℕ) → ¬ Opens first floors t c a → ((s : ℕ) → highAt u s ≡ highAt t s) → noted u a (history r) ≡ history r
+      → Happened (Opens first floors) (call r c) → (s : ℕ) → s < length floors → Greatest (highAt u s) (getD floors s 0) (noted u a (history r)) s
   unfolding Happened
   still first floors n h e (inl x) s l = absurd (n x)
   still first floors n h e (inr x) s l = rw (h s, e) (v .highest first floors x s l)
@@ -90,7 +91,7 @@ module _ (r : Run) (c : Call) (v : Counts r) where
       ]
 
   opening : (f : ℕ) (fs : List ℕ) → c ≡ openWith f fs → a ≡ Answer.Done → Closed t → ¬ BadOpening f fs → u ≡ opened f fs
-      → (first : ℕ) (floors : List ℕ) → Happened (Opens first floors) (call r c) → (s : ℕ) → s < length floors → Greatest (highAt u s) (getD floors s 0) (noted t a (history r)) s
+      → (first : ℕ) (floors : List ℕ) → Happened (Opens first floors) (call r c) → (s : ℕ) → s < length floors → Greatest (highAt u s) (getD floors s 0) (noted u a (history r)) s
   unfolding Happened opened
   opening f fs e g cl b p first floors (inr x) s l = absurd (v .shut cl .1 first floors x)
   opening f fs e g cl b p first floors (inl x) s l =
@@ -101,12 +102,12 @@ module _ (r : Run) (c : Call) (v : Counts r) where
       ∙ ap (λ (y : Ticket). y .0) (floor-at 8 floors s l (omega (arith, few-floors f fs b, ap length z))) in
       rw (g, invariant-run r .shut cl .0) (record { least = omega (arith, k); all = λ y m. absurd (List·Memᴰ·not-nil m); one = inl k })
 
-  committing : (m : ℕ) → c ≡ decide m → a ≡ Answer.Commit (number m)
-      → ((s : ℕ) → (Has (rowOfNumber t m) s × (highAt u s ≡ max (highAt t s) (tick (rowOfNumber t m) s))) ⊎ ((¬ Has (rowOfNumber t m) s) × (highAt u s ≡ highAt t s)))
-      → (first : ℕ) (floors : List ℕ) → Happened (Opens first floors) (call r c) → (s : ℕ) → s < length floors → Greatest (highAt u s) (getD floors s 0) (noted t a (history r)) s
+  committing : (m : ℕ) → c ≡ decide m → a ≡ Answer.Commit (number m) → Seals t c a u m
+      → (first : ℕ) (floors : List ℕ) → Happened (Opens first floors) (call r c) → (s : ℕ) → s < length floors → Greatest (highAt u s) (getD floors s 0) (noted u a (history r)) s
   unfolding Happened
-  committing m e f h first floors (inl x) s l = never (cc)
-  committing m e f h first floors (inr x) s l = rw f (raise first floors s (highAt u s) (rowOfNumber t m) (h s) (own (h s)) (v .highest first floors x s l))
+  committing m e f w first floors (inl x) s l = never (cc)
+  committing m e f w first floors (inr x) s l =
+      rw f (rw (w .entry) (raise first floors s (highAt u s) (rowOfNumber t m) (w .high s) (own (w .high s)) (v .highest first floors x s l)))
     where
       own : (Has (rowOfNumber t m) s × (highAt u s ≡ max (highAt t s) (tick (rowOfNumber t m) s))) ⊎ ((¬ Has (rowOfNumber t m) s) × (highAt u s ≡ highAt t s)) → tick (rowOfNumber t m) s ≤ highAt u s
       own (inl (y, z)) = omega arith
@@ -116,17 +117,13 @@ module _ (r : Run) (c : Call) (v : Counts r) where
       ]
 
   highest : Change t c a u → (first : ℕ) (floors : List ℕ) → Happened (Opens first floors) (call r c) → (s : ℕ) → s < length floors
-      → Greatest (highAt u s) (getD floors s 0) (noted t a (history r)) s
-  highest (refuses k e p) first floors = still first floors (λ x. never (cc)) (λ s. rw p) (rw e)
-  highest (opens f fs e g cl b p) first floors = opening f fs e g cl b p first floors
-  highest (begins sites i nc e f fr ch l h w) first floors = still first floors (λ x. never (cc)) h (rw f)
-  highest (tickets m s k i nc e f pos ac nm hs ins st ch sm) first floors = still first floors (λ x. never (cc)) (sm .high) (rw f)
-  highest (prepares m s i nc e f ac nm hs ins st ch sm) first floors = still first floors (λ x. never (cc)) (sm .high) (rw f)
-  highest (commits m nc e f ac nm ch l w h) first floors = committing m e f h first floors
-  highest (frees m i nc (inl (inl y)) g nm ch sm) first floors = still first floors (λ x. never (cc)) (sm .high) (rw (y .1))
-  highest (frees m i nc (inl (inr y)) g nm ch sm) first floors = still first floors (λ x. never (cc)) (sm .high) (rw (y .1))
-  highest (frees m i nc (inr y) g nm ch sm) first floors = still first floors (λ x. never (cc)) (sm .high) (rw (y .1))
-  highest (sweeps k nc e f sl sm) first floors = still first floors (λ x. never (cc)) (sm .high) (rw f)
+      → Greatest (highAt u s) (getD floors s 0) (noted u a (history r)) s
+  highest (refuses k e st p) first floors = still first floors (λ x. never (cc)) (λ s. rw p) (rw e)
+  highest (opens f fs e g st cl b p) first floors = opening f fs e g cl b p first floors
+  highest (begins sites i e f st nc fr ch l h w) first floors = still first floors (λ x. never (cc)) h (rw f)
+  highest (reports p m s k i e f st w sm) first floors = still first floors (λ x. no-report-open t c a first floors (x .0) p m s (k, e, f)) (sm .high) (rw f)
+  highest (commits m e f st w) first floors = committing m e f w first floors
+  highest (clears q w sm) first floors = still first floors (q .opens first floors) (sm .high) (q .notes (history r))
 
   -- numbers: only a begin answered with a number counts, and only an opening starts the count
   steady : (first : ℕ) (floors : List ℕ) → ¬ Opens first floors t c a → isBegun a ≡ 0 → u .last .0 ≡ t .last .0 → Happened (Opens first floors) (call r c)
@@ -137,22 +134,18 @@ module _ (r : Run) (c : Call) (v : Counts r) where
 
   sequence : Change t c a u → (first : ℕ) (floors : List ℕ) → Happened (Opens first floors) (call r c) → u .last .0 ≡ first - 1 + (begunSoFar r + isBegun a)
   unfolding Happened opened
-  sequence (refuses k e p) first floors x = steady first floors (λ y. never (cc)) (rw e) (rw p) x
-  sequence (opens f fs e g cl b p) first floors (inr x) = absurd (v .shut cl .1 first floors x)
-  sequence (opens f fs e g cl b p) first floors (inl x) =
+  sequence (refuses k e st p) first floors x = steady first floors (λ y. never (cc)) (rw e) (rw p) x
+  sequence (opens f fs e g st cl b p) first floors (inr x) = absurd (v .shut cl .1 first floors x)
+  sequence (opens f fs e g st cl b p) first floors (inl x) =
       let w : openWith f fs ≡ openWith first floors = cc in
       let z : f ≡ first = cc in
       let k : isBegun a ≡ 0 = rw g in
       omega (arith, ap (λ (y : Table). y .last .0) p, v .shut cl .0)
-  sequence (begins sites i nc e f fr ch l h w) first floors (inl x) = never (cc)
-  sequence (begins sites i nc e f fr ch l h w) first floors (inr x) = let k : isBegun a ≡ 1 = rw f in omega (arith, v .sequence first floors x)
-  sequence (tickets m s k i nc e f pos ac nm hs ins st ch sm) first floors x = steady first floors (λ y. never (cc)) (rw f) (sm .last) x
-  sequence (prepares m s i nc e f ac nm hs ins st ch sm) first floors x = steady first floors (λ y. never (cc)) (rw f) (sm .last) x
-  sequence (commits m nc e f ac nm ch l w h) first floors x = steady first floors (λ y. never (cc)) (rw f) l x
-  sequence (frees m i nc (inl (inl y)) g nm ch sm) first floors x = steady first floors (λ z. never (cc)) (rw (y .1)) (sm .last) x
-  sequence (frees m i nc (inl (inr y)) g nm ch sm) first floors x = steady first floors (λ z. never (cc)) (rw (y .1)) (sm .last) x
-  sequence (frees m i nc (inr y) g nm ch sm) first floors x = steady first floors (λ z. never (cc)) (rw (y .1)) (sm .last) x
-  sequence (sweeps k nc e f sl sm) first floors x = steady first floors (λ y. never (cc)) (rw f) (sm .last) x
+  sequence (begins sites i e f st nc fr ch l h w) first floors (inl x) = never (cc)
+  sequence (begins sites i e f st nc fr ch l h w) first floors (inr x) = let k : isBegun a ≡ 1 = rw f in omega (arith, v .sequence first floors x)
+  sequence (reports p m s k i e f st w sm) first floors x = steady first floors (λ y. no-report-open t c a first floors (y .0) p m s (k, e, f)) (rw f) (sm .last) x
+  sequence (commits m e f st w) first floors x = steady first floors (λ y. never (cc)) (rw f) (w .last) x
+  sequence (clears q w sm) first floors x = steady first floors (q .opens first floors) (q .counts) (sm .last) x
 
   shut : Closed u → (begunSoFar r + isBegun a ≡ 0) × ((first : ℕ) (floors : List ℕ) → ¬ Happened (Opens first floors) (call r c))
   unfolding Happened

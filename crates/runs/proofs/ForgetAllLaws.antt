@@ -44,7 +44,7 @@ use Rattle.invariant.proofs.KnownLaws.{Found, found, known-iff, changed, slot-o
 use Rattle.invariant.proofs.DropLaws.{invariant-forget}
 use Rattle.invariant.proofs.SweepLaws.{kept-of-slot, slot-goes, slot-stays, slot-other, free-of-hold, no-arrow-in}
 use Rattle.invariant.proofs.KeptLaws.{kept-apart, kept-ordered}
-use Rattle.runs.proofs.CensusLaws.{one-slot}
+use Rattle.invariant.proofs.StandingLaws.{one-slot}
 use Rattle.runs.proofs.ExactlyLaws.{forgets-exactly, sweep-counts}
 
 -- a slot in use that is freed is one free slot more
@@ -102,7 +102,7 @@ module _ (t : Table) (es : List Entry) (v : Invariant t es) (nc : ¬ Closed t) w
     where
       go : Found t (num (rowAt t i)) → Dec (slotOf t (num (rowAt t i)) ≡ i) → slotOf t (num (rowAt t i)) ≡ i
       go k (yes e) = e
-      go k (no e) = absurd (one-slot t es v sweep i (slotOf t (num (rowAt t i))) (num (rowAt t i)) e f (k .used) refl (k .named))
+      go k (no e) = absurd (one-slot t es v i (slotOf t (num (rowAt t i))) (num (rowAt t i)) e f (k .used) refl (k .named))
 
   -- one loose slot freed
   module _ (i : ℕ) (l : Loose i) where

@@ -1,10 +1,12 @@
 pub mod HistoryLaws
+pub mod EventLaws
 pub mod StepLaws
 pub mod CensusLaws
 pub mod PresentLaws
 pub mod RowFollowLaws
 pub mod RowReportLaws
 pub mod RowsFollowLaws
+pub mod StageFollowLaws
 pub mod CountLaws
 pub mod BesideLaws
 pub mod FollowLaws

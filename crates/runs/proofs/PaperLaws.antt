@@ -23,7 +23,7 @@ use Rattle.runs.specs.History.{history}
 use Rattle.invariant.proofs.ChangeLaws.{not-free}
 use Rattle.runs.proofs.HistoryLaws.{invariant-run}
 use Rattle.invariant.proofs.KnownLaws.{found, known-iff}
-use Rattle.runs.proofs.CensusLaws.{one-slot, closed-free}
+use Rattle.invariant.proofs.StandingLaws.{one-slot, closed-free}
 use Rattle.runs.proofs.PresentLaws.{census}
 use Rattle.runs.proofs.RowsFollowLaws.{rows-follow-run, begun-of-happened}
 use Rattle.runs.proofs.FollowLaws.{active-iff-begun, held-back-iff-beside}
@@ -53,12 +53,12 @@ module _ (r : Run) (n : ℕ) (k : Kept (after r) n) where
   known = known-iff t n .0 (k .0, in-use, k .2)
 
   pub open-of-kept : ¬ Closed t
-  open-of-kept cl = in-use (closed-free t (history r) (invariant-run r) sweep cl (k .0))
+  open-of-kept cl = in-use (closed-free t (history r) (invariant-run r) cl (k .0))
 
   pub committed-of-kept : IsCommitted q
   committed-of-kept = elim (ℕ-discrete (slotOf t n) (k .0)) [
     | yes e ↦ rw e (k .1)
-    | no d ↦ absurd (let f = found t n known in one-slot t (history r) (invariant-run r) sweep (k .0) (slotOf t n) n d in-use (f .used) (k .2) (f .named))
+    | no d ↦ absurd (let f = found t n known in one-slot t (history r) (invariant-run r) (k .0) (slotOf t n) n d in-use (f .used) (k .2) (f .named))
   ]
 
   held-iff : HeldBack t q ↔ ((m : ℕ) × Happened (CommitsBeside n m) r × Active t m)

@@ -30,7 +30,7 @@ use Rattle.invariant.proofs.KnownLaws.{changed}
 use Rattle.invariant.proofs.OpenLaws.{begin-slot, free-after-open}
 use Rattle.runs.proofs.HistoryLaws.{invariant-run}
 use Rattle.runs.proofs.PresentLaws.{change-of-run}
-use Rattle.runs.proofs.StepLaws.{Change, Change.refuses, Change.opens, Change.begins, Change.tickets, Change.prepares, Change.commits, Change.frees, Change.sweeps}
+use Rattle.runs.proofs.StepLaws.{Change, Change.refuses, Change.opens, Change.begins, Change.reports, Change.commits, Change.clears}
 
 free-or-not : (r : Row) → IsFree r ⊎ (¬ IsFree r)
 free-or-not r = elim (true-or-false (isFree (r .state))) [
@@ -69,25 +69,21 @@ module _ (t : Table) (es : List Entry) (v : Invariant t es) where
 module _ (t : Table) (c : Call) (a : Answer) (u : Table) (j : ℕ) (used : ¬ IsFree (rowAt u j)) where
   same-number : Change t c a u → ¬ IsFree (rowAt t j) → num (rowAt u j) ≡ num (rowAt t j)
   unfolding reported committedRow
-  same-number (refuses k e p) f = rw p
-  same-number (opens first floors e f cl b p) g = absurd (used (rw p (free-after-open first floors j .free)))
-  same-number (begins sites i nc e f fr ch l h s) g = elim (ch j) [ inl z ↦ absurd (g (rw (z .0) fr)) | inr z ↦ rw (z .1) ]
-  same-number (tickets n s k i nc e f p ac nm hs ps st ch sm) g = elim (ch j) [ inl z ↦ rw (z .1, z .0) | inr z ↦ rw (z .1) ]
-  same-number (prepares n s i nc e f ac nm hs ps st ch sm) g = elim (ch j) [ inl z ↦ rw (z .1, z .0) | inr z ↦ rw (z .1) ]
-  same-number (commits n nc e f ac nm ch l s hi) g = elim (ch j) [ inl z ↦ rw (z .1, z .0) | inr z ↦ rw (z .1) ]
-  same-number (frees n i nc e f nm ch sm) g = elim (ch j) [ inl z ↦ absurd (used (rw (z .1))) | inr z ↦ rw (z .1) ]
-  same-number (sweeps k nc e f ch sm) g = elim (ch j) [ inl z ↦ rw z | inr z ↦ absurd (used (rw z)) ]
+  same-number (refuses k e st p) f = rw p
+  same-number (opens first floors e f st cl b p) g = absurd (used (rw p (free-after-open first floors j .free)))
+  same-number (begins sites i e f st nc fr ch l h s) g = elim (ch j) [ inl z ↦ absurd (g (rw (z .0) fr)) | inr z ↦ rw (z .1) ]
+  same-number (reports p n s k i e f st w sm) g = elim (w .changed j) [ inl z ↦ rw (z .1, z .0) | inr z ↦ rw (z .1) ]
+  same-number (commits n e f st w) g = elim (w .changed j) [ inl z ↦ rw (z .1, z .0) | inr z ↦ rw (z .1) ]
+  same-number (clears q w sm) g = elim (w .slots j) [ inl z ↦ rw z | inr z ↦ absurd (used (rw (z .0))) ]
 
   begun-there : Change t c a u → IsFree (rowAt t j) → (sites : ℕ) × Begins (num (rowAt u j)) sites t c a
   unfolding newRow
-  begun-there (refuses k e p) g = absurd (used (rw p g))
-  begun-there (opens first floors e f cl b p) g = absurd (used (rw p (free-after-open first floors j .free)))
-  begun-there (begins sites i nc e f fr ch l h s) g = elim (ch j) [ inl z ↦ (sites, rw (z .1) (e, f)) | inr z ↦ absurd (used (rw (z .1) g)) ]
-  begun-there (tickets n s k i nc e f p ac nm hs ps st ch sm) g = elim (ch j) [ inl z ↦ absurd (not-free ac (rw (sym (z .0)) g)) | inr z ↦ absurd (used (rw (z .1) g)) ]
-  begun-there (prepares n s i nc e f ac nm hs ps st ch sm) g = elim (ch j) [ inl z ↦ absurd (not-free ac (rw (sym (z .0)) g)) | inr z ↦ absurd (used (rw (z .1) g)) ]
-  begun-there (commits n nc e f ac nm ch l s hi) g = elim (ch j) [ inl z ↦ absurd (not-free ac (rw (sym (z .0)) g)) | inr z ↦ absurd (used (rw (z .1) g)) ]
-  begun-there (frees n i nc e f nm ch sm) g = elim (ch j) [ inl z ↦ absurd (used (rw (z .1))) | inr z ↦ absurd (used (rw (z .1) g)) ]
-  begun-there (sweeps k nc e f ch sm) g = elim (ch j) [ inl z ↦ absurd (used (rw z g)) | inr z ↦ absurd (used (rw z)) ]
+  begun-there (refuses k e st p) g = absurd (used (rw p g))
+  begun-there (opens first floors e f st cl b p) g = absurd (used (rw p (free-after-open first floors j .free)))
+  begun-there (begins sites i e f st nc fr ch l h s) g = elim (ch j) [ inl z ↦ (sites, rw (z .1) (e, f)) | inr z ↦ absurd (used (rw (z .1) g)) ]
+  begun-there (reports p n s k i e f st w sm) g = elim (w .changed j) [ inl z ↦ absurd (not-free (w .active) (rw (sym (z .0)) g)) | inr z ↦ absurd (used (rw (z .1) g)) ]
+  begun-there (commits n e f st w) g = elim (w .changed j) [ inl z ↦ absurd (not-free (w .active) (rw (sym (z .0)) g)) | inr z ↦ absurd (used (rw (z .1) g)) ]
+  begun-there (clears q w sm) g = elim (w .slots j) [ inl z ↦ absurd (used (rw z g)) | inr z ↦ absurd (used (rw (z .0))) ]
 
 pub placed : (r : Run) → Placed r
 unfolding after

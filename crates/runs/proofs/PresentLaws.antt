@@ -19,9 +19,10 @@ use Rattle.runs.specs.Run.{Run, Run.start, Run.call, after, answerTo, Ha
 use Rattle.runs.specs.History.{history}
 use Rattle.invariant.specs.Invariant.{Invariant}
 use Rattle.invariant.proofs.OpenLaws.{invariant-closed}
+use Rattle.invariant.proofs.StandingLaws.{closed-free}
 use Rattle.runs.proofs.HistoryLaws.{invariant-run}
 use Rattle.runs.proofs.StepLaws.{Change, change-of-step}
-use Rattle.runs.proofs.CensusLaws.{closed-free, known-forth, known-back, known-of-leaves, begins-next, last-grows, refused-of-closed}
+use Rattle.runs.proofs.CensusLaws.{known-forth, known-back, known-of-leaves, begins-next, last-grows, refused-of-closed}
 
 pub change-of-run : (r : Run) (c : Call) → Change (after r) c (step (after r) c .answer) (step (after r) c .table)
 change-of-run r c = change-of-step (after r) (history r) (invariant-run r) c
@@ -38,7 +39,7 @@ unfolding after Happened
 census-start = record {
   present = λ n b. absurd (b .1);
   absent = λ n o. absurd (never-over n o);
-  first = λ n k. absurd (elim k [ inl x ↦ x .1 (closed-free closed [] invariant-closed sweep refl (x .0)) | inr o ↦ never-over n o ]);
+  first = λ n k. absurd (elim k [ inl x ↦ x .1 (closed-free closed [] invariant-closed refl (x .0)) | inr o ↦ never-over n o ]);
   counted = λ n b. absurd (b .1);
   shut = λ c n b. b .1;
 }

@@ -6,6 +6,7 @@ use Prim.Native.Nat.{ℕ, _<_}
 use Rattle.graph.specs.Lists.{_∈_}
 use Rattle.orders.specs.Arrow.{ticketAt}
 use Rattle.orders.specs.Entries.{Entry}
+use Rattle.method.specs.declared.Report.{Report}
 use Rattle.method.specs.declared.Table.{Table}
 use Rattle.method.specs.declared.Answer.{Answer}
 use Rattle.method.specs.Records.{number, rowAt}
@@ -20,41 +21,23 @@ use Rattle.runs.specs.History.{history}
 use Rattle.method.specs.Seen.{IsActive, num}
 use Rattle.invariant.proofs.ChangeLaws.{not-committed, not-free}
 use Rattle.runs.proofs.PresentLaws.{change-of-run}
-use Rattle.runs.proofs.RowFollowLaws.{later-iff}
-use Rattle.runs.proofs.RowsFollowLaws.{rows-follow-run}
-use Rattle.runs.proofs.StepLaws.{Change, Change.refuses, Change.opens, Change.begins, Change.tickets, Change.prepares, Change.commits, Change.frees, Change.sweeps}
+use Rattle.runs.proofs.EventLaws.{report-of-ticket, later-iff}
+use Rattle.runs.proofs.RowsFollowLaws.{active-of-report, rows-follow-run}
+use Rattle.runs.proofs.StepLaws.{Change, Change.refuses, Change.opens, Change.begins, Change.reports, Change.commits, Change.clears}
 
 -- an answer is a commit, which notes its row, or notes nothing
 module _ (t : Table) (c : Call) (a : Answer) (u : Table) (es : List Entry) where
   pub data Notes : Type 0 where
-    one : (n : ℕ) → Commits n t c a → IsActive (rowOfNumber t n) → num (rowOfNumber t n) ≡ n → noted t a es ≡ entryOf (rowOfNumber t n) ∷ es → Notes
-    none : ((n : ℕ) → ¬ Commits n t c a) → noted t a es ≡ es → Notes
+    one : (n : ℕ) → Commits n t c a → IsActive (rowOfNumber t n) → num (rowOfNumber t n) ≡ n → noted u a es ≡ entryOf (rowOfNumber t n) ∷ es → Notes
+    none : ((n : ℕ) → ¬ Commits n t c a) → noted u a es ≡ es → Notes
 
   notes : Change t c a u → Notes
-  notes (refuses k e p) = none (λ n x. never (cc)) (rw e)
-  notes (opens first floors e f cl b p) = none (λ n x. never (cc)) (rw f)
-  notes (begins sites i nc e f fr ch l h s) = none (λ n x. never (cc)) (rw f)
-  notes (tickets n s k i nc e f p ac nm hs ps st ch sm) = none (λ n x. never (cc)) (rw f)
-  notes (prepares n s i nc e f ac nm hs ps st ch sm) = none (λ n x. never (cc)) (rw f)
-  notes (commits n nc e f ac nm ch l s hi) = one n (e, f) ac nm (rw f)
-  notes (frees n i nc (inl (inl e)) f nm ch sm) = none (λ n x. never (cc)) (rw (e .1))
-  notes (frees n i nc (inl (inr e)) f nm ch sm) = none (λ n x. never (cc)) (rw (e .1))
-  notes (frees n i nc (inr e) f nm ch sm) = none (λ n x. never (cc)) (rw (e .1))
-  notes (sweeps k nc e f ch sm) = none (λ n x. never (cc)) (rw f)
-
--- a ticket is taken for an active one
-module _ (t : Table) (c : Call) (a : Answer) (u : Table) (m s k : ℕ) (x : TakesTicket m s k t c a) where
-  active-of-ticket : Change t c a u → (i : ℕ) × IsActive (rowAt t i) × (num (rowAt t i) ≡ m)
-  active-of-ticket (refuses j e p) = never (cc)
-  active-of-ticket (opens first floors e f cl b p) = never (cc)
-  active-of-ticket (begins sites i nc e f fr ch l h z) = never (cc)
-  active-of-ticket (tickets n z j i nc e f p ac nm hs ps st ch sm) = (i, ac, nm ∙ (let q : reportTicket n z j ≡ reportTicket m s k = cc in cc))
-  active-of-ticket (prepares n z i nc e f ac nm hs ps st ch sm) = never (cc)
-  active-of-ticket (commits n nc e f ac nm ch l z hi) = never (cc)
-  active-of-ticket (frees n i nc (inl (inl e)) f nm ch sm) = never (cc)
-  active-of-ticket (frees n i nc (inl (inr e)) f nm ch sm) = never (cc)
-  active-of-ticket (frees n i nc (inr e) f nm ch sm) = never (cc)
-  active-of-ticket (sweeps j nc e f ch sm) = never (cc)
+  notes (refuses k e st p) = none (λ n x. never (cc)) (rw e)
+  notes (opens first floors e f st cl b p) = none (λ n x. never (cc)) (rw f)
+  notes (begins sites i e f st nc fr ch l h s) = none (λ n x. never (cc)) (rw f)
+  notes (reports p n s k i e f st w sm) = none (λ n x. never (cc)) (rw f)
+  notes (commits n e f st w) = one n (e, f) (w .active) (w .named) (rw f (ap (λ (x : Entry). x ∷ es) (w .entry)))
+  notes (clears q w sm) = none (q .commits) (q .notes es)
 
 -- a row of the history with the number
 abbrev EntryWith : List Entry → ℕ → Type 0
@@ -64,12 +47,12 @@ abbrev notes-of : (r : Run) (c : Call) → Notes (after r) c (answerTo r c) (ste
 notes-of r c = notes (after r) c (answerTo r c) (step (after r) c .table) (history r) (change-of-run r c)
 
 pub history-commits : (r : Run) (n : ℕ) → Happened (Commits n) r ↔ EntryWith (history r) n
-unfolding Happened history entryOf
+unfolding Happened history entryOf after
 history-commits start n = (λ x. absurd x, λ x. absurd (List·Memᴰ·not-nil (x .1)))
 history-commits (call r c) n = go (notes-of r c) (history-commits r n)
   where
     go : Notes (after r) c (answerTo r c) (step (after r) c .table) (history r) → Happened (Commits n) r ↔ EntryWith (history r) n
-        → (Commits n (after r) c (answerTo r c) ⊎ Happened (Commits n) r) ↔ EntryWith (noted (after r) (answerTo r c) (history r)) n
+        → (Commits n (after r) c (answerTo r c) ⊎ Happened (Commits n) r) ↔ EntryWith (noted (step (after r) c .table) (answerTo r c) (history r)) n
     go (one m x ac nm p) h = rw p (forth, back)
       where
         forth : Commits n (after r) c (answerTo r c) ⊎ Happened (Commits n) r → EntryWith (entryOf (rowOfNumber (after r) m) ∷ history r) n
@@ -85,7 +68,7 @@ abbrev Reported : Run → Entry → Type 0
 Reported r e = (s k : ℕ) → 0 < k → (ticketAt (e .tickets) s ≡ k) ↔ Happened (TakesTicket (e .number) s k) r
 
 pub history-reported : (r : Run) (e : Entry) → e ∈ history r → Reported r e
-unfolding history entryOf
+unfolding history entryOf after
 history-reported start e m = absurd (List·Memᴰ·not-nil m)
 history-reported (call r c) e m = go (notes-of r c) m (history-reported r e)
   where
@@ -95,10 +78,10 @@ history-reported (call r c) e m = go (notes-of r c) m (history-reported r e)
       where
         not-now : ¬ TakesTicket (e .number) s k (after r) c (answerTo r c)
         not-now x =
-            let (j, ac, nm) = active-of-ticket (after r) c (answerTo r c) (step (after r) c .table) (e .number) s k x (change-of-run r c) in
+            let (j, ac, nm) = active-of-report (after r) c (answerTo r c) (step (after r) c .table) (change-of-run r c) Report.Ticket (e .number) s (report-of-ticket (after r) c (answerTo r c) (e .number) s k x) in
             not-committed ac (rows-follow-run r j (not-free ac) .committed .1 (rw nm (history-commits r (e .number) .1 (e, i, refl))))
 
-    go : Notes (after r) c (answerTo r c) (step (after r) c .table) (history r) → e ∈ noted (after r) (answerTo r c) (history r) → (e ∈ history r → Reported r e) → Reported (call r c) e
+    go : Notes (after r) c (answerTo r c) (step (after r) c .table) (history r) → e ∈ noted (step (after r) c .table) (answerTo r c) (history r) → (e ∈ history r → Reported r e) → Reported (call r c) e
     go (none f p) i h = let j : e ∈ history r = rw p at i in old j (h j)
     go (one n x ac nm p) i h = new (rw p at i)
       where

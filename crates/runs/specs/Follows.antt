@@ -1,5 +1,6 @@
 -- The table follows the run: each thing that it holds, read off the calls that were made and the answers that they got.
 use mathlib.Core.Path.{_≡_}
+use mathlib.Core.Bool.{true}
 use mathlib.Core.List.{List}
 use mathlib.Core.Logic.{_↔_, _⊎_}
 use Prim.Native.Nat.{ℕ, _+_, _-_, _<_, _≤_}
@@ -7,14 +8,15 @@ use lib.ListN.{length, getD}
 use Rattle.graph.specs.Lists.{_∈_}
 use Rattle.orders.specs.Arrow.{ticketAt}
 use Rattle.orders.specs.Entries.{Entry}
-use Rattle.method.specs.declared.Stage.{Stage}
+use Rattle.method.specs.declared.Report.{Report}
 use Rattle.method.specs.declared.Row.{Row}
 use Rattle.method.specs.declared.Table.{Table}
 use Rattle.method.specs.declared.Answer.{Answer}
 use Rattle.method.specs.Records.{noPart, rowAt, partAt, highAt}
+use Rattle.method.specs.Stages.{given}
 use Rattle.method.specs.Calls.{Call}
 use Rattle.method.specs.Seen.{Known, IsFree, IsActive, IsCommitted, num, Has, base, tick}
-use Rattle.runs.specs.Run.{Run, after, Happened, Opens, Begins, TakesTicket, Prepares, Commits, CommitsBeside, Over, BegunIn, begins}
+use Rattle.runs.specs.Run.{Run, after, Happened, Opens, Begins, TakesTicket, Reports, Commits, CommitsBeside, Over, BegunIn, begins}
 use Rattle.runs.specs.History.{history}
 
 -- begun with these sites, at a table whose highest tickets were these bases
@@ -24,11 +26,10 @@ BeginsAt q t c a = Begins (num q) (q .sites) t c a × ((s : ℕ) → Has q s →
 -- a row in use after a run
 pub record RowFollows (r : Run) (q : Row) : Type 0 where
   pub begun : Happened (BeginsAt q) r
-  -- it holds a ticket exactly if that was reported, and is prepared exactly where that was reported
+  -- it holds a ticket exactly if that was reported, and each site has come exactly as far as its reports
   pub tickets : (s k : ℕ) → 0 < k → (tick q s ≡ k) ↔ Happened (TakesTicket (num q) s k) r
-  pub prepared : (s : ℕ) → (partAt q s .stage ≡ Stage.Prepared) ↔ Happened (Prepares (num q) s) r
-  -- a site without a ticket is at the first stage; a site that is not listed holds nothing
-  pub stages : (s : ℕ) → (partAt q s .stage ≡ Stage.Begun) ↔ (tick q s ≡ 0)
+  pub reports : (s : ℕ) (p : Report) → (given p (partAt q s .stage) ≡ true) ↔ Happened (Reports p (num q) s) r
+  -- a site that is not listed holds nothing
   pub unlisted : (s : ℕ) → ¬ Has q s → partAt q s ≡ noPart
   -- it is committed exactly if that was the answer
   pub committed : IsCommitted q ↔ Happened (Commits (num q)) r

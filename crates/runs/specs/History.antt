@@ -7,4 +7,4 @@ use Rattle.runs.specs.Run.{Run, Run.start, Run.call, after, answerTo}
 -- the latest first
 unfoldable pub history : Run → List Entry
 history start = []
-history (call r c) = noted (after r) (answerTo r c) (history r)
+history (call r c) = noted (after (call r c)) (answerTo r c) (history r)

@@ -3,6 +3,7 @@ use mathlib.Core.Path.{_≡_}
 use mathlib.Core.List.{List, [], _∷_}
 use mathlib.Core.Logic.{_⊎_}
 use Prim.Native.Nat.{ℕ, _+_}
+use Rattle.method.specs.declared.Report.{Report}
 use Rattle.method.specs.declared.Table.{Table}
 use Rattle.method.specs.declared.Answer.{Answer}
 use Rattle.method.specs.Records.{number, closed}
@@ -39,8 +40,13 @@ Begins n sites t c a = (c ≡ begin sites) × (a ≡ Answer.Begun (number n))
 abbrev pub TakesTicket : ℕ → ℕ → ℕ → Table → Call → Answer → Type 0
 TakesTicket n s k t c a = (c ≡ reportTicket n s k) × (a ≡ Answer.Done)
 
-abbrev pub Prepares : ℕ → ℕ → Table → Call → Answer → Type 0
-Prepares n s t c a = (c ≡ reportPrepared n s) × (a ≡ Answer.Done)
+-- a report taken for a number at a site; only that of a ticket brings one, and k is not looked at in the others
+abbrev pub reportCall : Report → ℕ → ℕ → ℕ → Call
+reportCall Report.Ticket n s k = reportTicket n s k
+reportCall Report.Prepared n s k = reportPrepared n s
+
+abbrev pub Reports : Report → ℕ → ℕ → Table → Call → Answer → Type 0
+Reports p n s t c a = (k : ℕ) × (c ≡ reportCall p n s k) × (a ≡ Answer.Done)
 
 abbrev pub Commits : ℕ → Table → Call → Answer → Type 0
 Commits n t c a = (c ≡ decide n) × (a ≡ Answer.Commit (number n))

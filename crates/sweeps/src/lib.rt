@@ -84,7 +84,7 @@ pub fn sweep(t: Table) -> Answered
     if t.sites == 0 {
         return records::refuse(t, 1);
     }
-    let flat = kept::aligned(t, 32);
+    let flat = kept::aligned::tickets(t, 32);
     let marks = held(t);
     let stay = paths::reached(flat, marks);
     cleared(t, stay)

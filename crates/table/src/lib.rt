@@ -9,7 +9,7 @@ ghost use Rattle.method.specs.Conditions.{isClosed};
 ghost use Rattle.method.specs.Calls.Call.{openWith, begin as beginCall, reportTicket, reportPrepared, abort as abortCall, decide as decideCall, forget as forgetCall, sweep as sweepCall};
 ghost use Rattle.kept.specs.Packed.{packedOf};
 ghost use Rattle.table.specs.Shut.{shutTable, answerTo, tableAfter, usedBy};
-use kept::Kept;
+use kept::packed::Kept;
 use method::Answer;
 use method::Number;
 use method::Ticket;
@@ -131,7 +131,7 @@ pub fn kept_rows(t: Table) -> Kept
     ensures whole { λ r. ⌜ length (keptFlat (t .held)) ≡ 9 * r .count ⌝ }
 {
     let held = t.held;
-    kept::packed(held)
+    kept::packed::rows(held)
 }
 
 // How many sites a transaction uses: 0 for a number that the table does not know.

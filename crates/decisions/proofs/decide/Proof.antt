@@ -71,8 +71,8 @@ returns c =
     let e = gate f in
     c .refuse2 .ensures ∙ sym (decide-early (t e) (slots e) (n e) (slot f) (at f) (not-false _ (sym (c .before .before .is-prepared .ensures) ∙ not-true _ (c .before .if1 .taken))))
 
-aligned-requires : tie.Need-aligned-requires
-aligned-requires c κs = search needs
+tickets-requires : tie.Need-tickets-requires
+tickets-requires c κs = search needs
 
 has-cycle-requires : tie.Need-has-cycle-requires
 has-cycle-requires c κs = search needs
@@ -94,7 +94,7 @@ returns-2 c =
     let f = found h in
     let e = gate f in
     c .cancel .ensures
-    ∙ sym (decide-cycle (t e) (slots e) (n e) (slot f) (at f) (prepared h) (h .before .aligned .result) (h .before .aligned .ensures) (h .has-cycle .result) (h .has-cycle .ensures) (c .before .if2 .taken))
+    ∙ sym (decide-cycle (t e) (slots e) (n e) (slot f) (at f) (prepared h) (h .before .tickets .result) (h .before .tickets .ensures) (h .has-cycle .result) (h .has-cycle .ensures) (c .before .if2 .taken))
 
 commit-requires : tie.Need-commit-requires
 commit-requires c κs = inside (found (c .before))
@@ -111,7 +111,7 @@ returns-4 c =
     let f = found h in
     let e = gate f in
     c .commit .ensures
-    ∙ sym (decide-commit (t e) (slots e) (n e) (slot f) (at f) (prepared h) (h .before .aligned .result) (h .before .aligned .ensures) (h .has-cycle .result) (h .has-cycle .ensures) (c .before .if2 .left))
+    ∙ sym (decide-commit (t e) (slots e) (n e) (slot f) (at f) (prepared h) (h .before .tickets .result) (h .before .tickets .ensures) (h .has-cycle .result) (h .has-cycle .ensures) (c .before .if2 .left))
 
 pub decide-spec : {M : Type 1} → statement M
 decide-spec =
@@ -126,7 +126,7 @@ decide-spec =
     is-prepared-requires
     refuse-requires-2
     returns
-    aligned-requires
+    tickets-requires
     has-cycle-requires
     cancel-requires
     returns-2

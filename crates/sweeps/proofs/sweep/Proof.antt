@@ -13,8 +13,8 @@ refuse-requires c κs = search needs
 returns : tie.Need-returns
 returns c = c .refuse .ensures ∙ sym (sweep-closed (c .before .before .before .args .t) (c .before .if1 .taken))
 
-aligned-requires : tie.Need-aligned-requires
-aligned-requires c κs = search needs
+tickets-requires : tie.Need-tickets-requires
+tickets-requires c κs = search needs
 
 held-requires : tie.Need-held-requires
 held-requires c κs = search needs
@@ -26,10 +26,10 @@ cleared-requires : tie.Need-cleared-requires
 cleared-requires c κs =
     let t = c .before .before .before .before .before .args .t in
     let l : length (t .rows) ≡ 32 = search (needs, unmapped) in
-    stay-marks t l (c .before .before .aligned .result) (c .before .before .aligned .ensures) (c .before .held .result) (c .before .held .ensures) (c .reached .result) (c .reached .ensures)
+    stay-marks t l (c .before .before .tickets .result) (c .before .before .tickets .ensures) (c .before .held .result) (c .before .held .ensures) (c .reached .result) (c .reached .ensures)
 
 returns-2 : tie.Need-returns-2
 returns-2 c = c .cleared .ensures ∙ sym (sweep-open (c .before .before .before .before .before .before .args .t) (c .before .before .before .before .if1 .left))
 
 pub sweep-spec : {M : Type 1} → statement M
-sweep-spec = tie.close (tie.spec refuse-requires returns aligned-requires held-requires reached-requires cleared-requires returns-2)
+sweep-spec = tie.close (tie.spec refuse-requires returns tickets-requires held-requires reached-requires cleared-requires returns-2)

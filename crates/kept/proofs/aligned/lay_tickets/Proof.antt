@@ -7,8 +7,8 @@ use borrow.Author.Needs.{needs}
 use Rattle.method.proofs.SearchLaws.{unmapped}
 use Rattle.kept.specs.Aligned.{RowLaid}
 use Rattle.kept.proofs.AlignedLaws.{laid-none, laid-more}
-use Rattle.kept.proofs.lay_tickets.Statement.{statement}
-use Rattle.kept.proofs.lay_tickets.Tie as tie
+use Rattle.kept.proofs.aligned.lay_tickets.Statement.{statement}
+use Rattle.kept.proofs.aligned.lay_tickets.Tie as tie
 
 abbrev Inv-loop : tie.InvT-loop
 Inv-loop flat₀ i row s₀ flat s = (s ≤ 8) × (i < 32) × (length flat ≡ 256) × (length (row .parts) ≡ 8) × RowLaid flat₀ i row s flat

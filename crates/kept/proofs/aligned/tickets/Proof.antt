@@ -1,4 +1,4 @@
--- `kept::aligned` meets its contract: after i turns the slots below i are laid down, and behind them all is zero. Assumes nothing.
+-- `kept::aligned::tickets` meets its contract: after i turns the slots below i are laid down, and behind them all is zero. Assumes nothing.
 use mathlib.Core.Path.{refl, sym}
 use mathlib.Core.Logic.{⊎-elim}
 use Prim.Native.Nat.{_-_, _<_}
@@ -6,8 +6,8 @@ use native.Mathlib.Omega.{arith}
 use borrow.Author.Needs.{needs}
 use Rattle.kept.specs.Aligned.{AlignedBelow}
 use Rattle.kept.proofs.AlignedLaws.{zeros, aligned-none, aligned-laid, aligned-skip, aligned-all}
-use Rattle.kept.proofs.aligned.Statement.{statement}
-use Rattle.kept.proofs.aligned.Tie as tie
+use Rattle.kept.proofs.aligned.tickets.Statement.{statement}
+use Rattle.kept.proofs.aligned.tickets.Tie as tie
 
 abbrev Inv-loop : tie.InvT-loop
 Inv-loop chosen t flat₀ i₀ flat i = AlignedBelow t chosen i flat
@@ -52,8 +52,8 @@ returns c =
     let l = c .before in
     aligned-all (l .before .args .t1) (l .before .args .chosen) (c .loop-test .left) (l .loop .inv)
 
-pub aligned-spec : {M : Type 1} → statement M
-aligned-spec =
+pub tickets-spec : {M : Type 1} → statement M
+tickets-spec =
     tie.close
     (tie.spec
     Inv-loop

@@ -11,8 +11,8 @@ use Rattle.method.specs.Records.{ticketsOf}
 use Rattle.method.proofs.RowLaws.{ticket-part, length-tickets}
 use Rattle.method.proofs.SearchLaws.{unmapped}
 use Rattle.kept.proofs.PackedLaws.{laid-entries}
-use Rattle.kept.proofs.lay_entries.Statement.{statement}
-use Rattle.kept.proofs.lay_entries.Tie as tie
+use Rattle.kept.proofs.packed.lay_entries.Statement.{statement}
+use Rattle.kept.proofs.packed.lay_entries.Tie as tie
 
 abbrev Inv-loop : tie.InvT-loop
 Inv-loop flat₀ at row s₀ flat s =

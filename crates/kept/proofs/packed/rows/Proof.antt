@@ -1,4 +1,4 @@
--- `kept::packed` meets its contract: after i turns the rows of the first i slots are packed. Assumes nothing.
+-- `kept::packed::rows` meets its contract: after i turns the rows of the first i slots are packed. Assumes nothing.
 use mathlib.Core.Path.{_≡_, refl, sym, ap, _∙_}
 use mathlib.Core.Bool.{true, false, false≢true}
 use mathlib.Core.List.{[], _∷_, _++_}
@@ -13,8 +13,8 @@ use Rattle.method.specs.Records.{committed, pastEnd}
 use Rattle.method.proofs.SearchLaws.{unmapped}
 use Rattle.kept.specs.Packed.{keptOf, packedOf, packedRows}
 use Rattle.kept.proofs.PackedLaws.{flat, count, packed-more, packed-same, size-grow, packed-none, flat-none, few, packed-all, packed-size}
-use Rattle.kept.proofs.packed.Statement.{statement}
-use Rattle.kept.proofs.packed.Tie as tie
+use Rattle.kept.proofs.packed.rows.Statement.{statement}
+use Rattle.kept.proofs.packed.rows.Tie as tie
 
 abbrev Inv-loop : tie.InvT-loop
 Inv-loop t rows₀ n₀ i₀ rows n i =
@@ -95,8 +95,8 @@ returns c =
     let k = rw all at (i .3) in
     (k ∙ packed-all t, packed-size t (keptOf (l .loop .n) (l .loop .rows)) k (rw all at (i .4)))
 
-pub packed-spec : {M : Type 1} → statement M
-packed-spec =
+pub rows-spec : {M : Type 1} → statement M
+rows-spec =
     tie.close
     (tie.spec
     Inv-loop
