@@ -1,14 +1,16 @@
 -- Members of a list that pass a test: `anyOf` and `keep`. Assumes nothing.
-use mathlib.Core.Path.{_≡_, refl}
-use mathlib.Core.Bool.{Bool, true, false, cond, false≢true}
+use mathlib.Core.Path.{_≡_, refl, sym, subst}
+use mathlib.Core.Bool.{Bool, true, false, not, cond, false≢true}
 use mathlib.Core.List.{List, [], _∷_, List·Memᴰ·head as here, List·Memᴰ·tail as there, List·Memᴰ·not-nil, List·Memᴰ·cases-cons}
 use mathlib.Core.Logic.{_⊎_, _↔_, inl, inr}
 use Prim.Native.Nat.{ℕ, suc, _≤_, _<_}
 use native.Mathlib.Decide.{ℕ-discrete}
 use native.Mathlib.Omega.{arith}
+use lib.Dec.{eqb}
 use lib.ListN.{length}
+use borrow.Author.Tests.{eqb-true, eq-eqb}
 use Rattle.graph.specs.Lists.{_∈_, _⊆_, anyOf, keep, isNil}
-use Rattle.graph.proofs.TestLaws.{true-or-false, either-of-or, or-of-left, or-of-right}
+use Rattle.graph.proofs.TestLaws.{true-or-false, true-not-false, either-of-or, or-of-left, or-of-right}
 
 module _ {A : Type 0} (f : A → Bool) where
   pub any-of-member : {x : A} {rs : List A} → x ∈ rs → f x ≡ true → anyOf f rs ≡ true
@@ -109,3 +111,16 @@ member-or-not n (x ∷ l) = go (ℕ-discrete n x) (member-or-not n l)
     go (yes e) r = inl (here e)
     go (no e) (inl m) = inl (there m)
     go (no e) (inr f) = inr (λ m. elim (List·Memᴰ·cases-cons m) [ inl p ↦ e p | inr k ↦ f k ])
+
+-- membership among numbers, by a test that computes
+pub member-of-test : (n : ℕ) (l : List ℕ) → anyOf (eqb n) l ≡ true → n ∈ l
+member-of-test n l e = let (m, i, p) = member-of-any (eqb n) l e in subst (λ (x : ℕ). x ∈ l) (sym (eqb-true n m p)) i
+
+pub not-member-of-test : (n : ℕ) (l : List ℕ) → anyOf (eqb n) l ≡ false → ¬ (n ∈ l)
+not-member-of-test n l e m = true-not-false (any-of-member (eqb n) m (eq-eqb n n refl)) e
+
+pub subset-of-test : (l m : List ℕ) → anyOf (λ n. not (anyOf (eqb n) m)) l ≡ false → l ⊆ m
+subset-of-test l m e n i = elim (true-or-false (anyOf (eqb n) m)) [
+  | inl h ↦ member-of-test n m h
+  | inr h ↦ absurd (true-not-false (any-of-member (λ k. not (anyOf (eqb k) m)) i (rw h)) e)
+]

@@ -7,7 +7,8 @@ use lib.ListN.{length, length-append}
 use Rattle.endian.specs.Places.{Below}
 use Rattle.decimal.specs.Decimal.{decimal}
 use Rattle.text.specs.Text.{spaced}
-use Rattle.lines.specs.Line.{Line, ok, begin, commit, cycle, swept, good, bad, order, refused, wordOf, numbersOf, lineBytes, InRange}
+use Rattle.lines.specs.declared.Words.{Words}
+use Rattle.lines.specs.Line.{Line, Line.say, Line.order, wordOf, numbersOf, lineBytes, InRange}
 use Rattle.lines.specs.Reading.{Visible, Lacks, lastOf, OneLine}
 use Rattle.decimal.proofs.DecimalLaws.{length-decimal-pos, length-decimal-32}
 use Rattle.text.proofs.SpacedLaws.{length-text}
@@ -68,15 +69,15 @@ length-spaced-le (n ∷ l) h = omega (arith, length-append (decimal n) (spaced l
 pub length-line-le : (x : Line) → InRange x → length (lineBytes x) ≤ 358
 length-line-le x h = by-word x (h .few) (omega (arith, length-text (wordOf x) (numbersOf x), length-spaced-le (numbersOf x) (h .numbers))) where
   by-word : (y : Line) → length (numbersOf y) ≤ 32 → length (lineBytes y) ≤ length (wordOf y) + 11 * length (numbersOf y) + 1 → length (lineBytes y) ≤ 358
-  by-word ok few e = omega arith
-  by-word (begin n) few e = omega arith
-  by-word (commit n) few e = omega arith
-  by-word (cycle n) few e = omega arith
-  by-word (swept c) few e = omega arith
-  by-word good few e = omega arith
-  by-word bad few e = omega arith
+  by-word (say Words.Ok) few e = omega arith
+  by-word (say (Words.Begin n)) few e = omega arith
+  by-word (say (Words.Commit n)) few e = omega arith
+  by-word (say (Words.Cycle n)) few e = omega arith
+  by-word (say (Words.Swept c)) few e = omega arith
+  by-word (say Words.Good) few e = omega arith
+  by-word (say Words.Bad) few e = omega arith
   by-word (order l) few e = omega arith
-  by-word (refused r) few e = omega arith
+  by-word (say (Words.Refused r)) few e = omega arith
 
 pub line-some : (x : Line) → zero < length (lineBytes x)
 line-some x = omega (arith, length-text (wordOf x) (numbersOf x))

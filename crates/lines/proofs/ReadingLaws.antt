@@ -9,7 +9,8 @@ use lib.Dec.{eqb}
 use lib.ListN.{length, getD, length-append}
 use Rattle.decimal.specs.Decimal.{decimal}
 use Rattle.text.specs.Text.{spaced}
-use Rattle.lines.specs.Line.{Line, ok, begin, commit, cycle, swept, good, bad, order, refused, wordOf, numbersOf, lineBytes}
+use Rattle.lines.specs.declared.Words.{Words}
+use Rattle.lines.specs.Line.{Line, Line.say, Line.order, wordOf, numbersOf, lineBytes}
 use Rattle.lines.specs.Reading.{Visible, outputBytes}
 use Rattle.decimal.proofs.DecimalLaws.{decimal-injective}
 use Rattle.text.proofs.SpacedLaws.{length-text}
@@ -45,26 +46,26 @@ lineFrom : List ℕ → List ℕ → Line
 lineFrom w l =
     let k = 256 * getD w 0 0 + getD w 1 0 in
     let n = getD l 0 0 in
-    cond (eqb k 28523) ok
-    (cond (eqb k 25189) (begin n)
-    (cond (eqb k 25455) (commit n)
-    (cond (eqb k 25465) (cycle n)
-    (cond (eqb k 29559) (swept n)
-    (cond (eqb k 26479) good
-    (cond (eqb k 25185) bad
-    (cond (eqb k 28530) (order l) (refused n))))))))
+    cond (eqb k 28523) (say Words.Ok)
+    (cond (eqb k 25189) (say (Words.Begin n))
+    (cond (eqb k 25455) (say (Words.Commit n))
+    (cond (eqb k 25465) (say (Words.Cycle n))
+    (cond (eqb k 29559) (say (Words.Swept n))
+    (cond (eqb k 26479) (say Words.Good)
+    (cond (eqb k 25185) (say Words.Bad)
+    (cond (eqb k 28530) (order l) (say (Words.Refused n)))))))))
 
 line-from : (x : Line) → lineFrom (wordOf x) (numbersOf x) ≡ x
 unfolding lineFrom
-line-from ok = refl
-line-from (begin n) = refl
-line-from (commit n) = refl
-line-from (cycle n) = refl
-line-from (swept c) = refl
-line-from good = refl
-line-from bad = refl
+line-from (say Words.Ok) = refl
+line-from (say (Words.Begin n)) = refl
+line-from (say (Words.Commit n)) = refl
+line-from (say (Words.Cycle n)) = refl
+line-from (say (Words.Swept c)) = refl
+line-from (say Words.Good) = refl
+line-from (say Words.Bad) = refl
 line-from (order l) = refl
-line-from (refused r) = refl
+line-from (say (Words.Refused r)) = refl
 
 -- with anything behind: the first line is determined, and so is the rest
 pub line-and-rest : (x y : Line) (r s : List ℕ) → lineBytes x ++ r ≡ lineBytes y ++ s → (x ≡ y) × (r ≡ s)

@@ -8,7 +8,8 @@ use lib.Dec.{ltb}
 use lib.ListN.{length}
 use borrow.Author.Tests.{ltb-true}
 use Rattle.decimal.specs.Decimal.{decimal, Digits}
-use Rattle.lines.specs.Line.{Line, ok, begin, commit, cycle, swept, good, bad, order, refused, wordOf}
+use Rattle.lines.specs.declared.Words.{Words}
+use Rattle.lines.specs.Line.{Line, Line.say, Line.order, wordOf}
 use Rattle.lines.specs.Reading.{Visible}
 use Rattle.decimal.proofs.DecimalLaws.{digits-decimal}
 
@@ -38,15 +39,15 @@ wordb w = ltb 0 (length w) && visibleb w
 
 wordb-word : (x : Line) → wordb (wordOf x) ≡ true
 unfolding wordb visibleb
-wordb-word ok = refl
-wordb-word (begin n) = refl
-wordb-word (commit n) = refl
-wordb-word (cycle n) = refl
-wordb-word (swept c) = refl
-wordb-word good = refl
-wordb-word bad = refl
+wordb-word (say Words.Ok) = refl
+wordb-word (say (Words.Begin n)) = refl
+wordb-word (say (Words.Commit n)) = refl
+wordb-word (say (Words.Cycle n)) = refl
+wordb-word (say (Words.Swept c)) = refl
+wordb-word (say Words.Good) = refl
+wordb-word (say Words.Bad) = refl
 wordb-word (order l) = refl
-wordb-word (refused r) = refl
+wordb-word (say (Words.Refused r)) = refl
 
 pub word-some : (x : Line) → zero < length (wordOf x)
 unfolding wordb

@@ -4,43 +4,56 @@ use Prim.Native.Nat.{ℕ, _≤_, _^_}
 use lib.ListN.{length}
 use Rattle.endian.specs.Places.{Below}
 use Rattle.text.specs.Text.{textOf}
+use Rattle.lines.specs.declared.Words.{Words}
 
--- n is a transaction's number, c a count, r a refusal number
 pub data Line : Type 0 where
-  ok : Line
-  -- n
-  begin commit cycle : ℕ → Line
-  -- c
-  swept : ℕ → Line
-  good bad : Line
+  -- every answer but the order: a word, and behind it a number or none
+  say : Words → Line
   -- the numbers of the kept rows in their order
   order : List ℕ → Line
-  -- r
-  refused : ℕ → Line
 
--- the word that a line begins with
+-- those that statements name; r is a refusal number
+abbrev pub okLine : Line
+okLine = say Words.Ok
+
+abbrev pub goodLine : Line
+goodLine = say Words.Good
+
+abbrev pub badLine : Line
+badLine = say Words.Bad
+
+abbrev pub refusedLine : ℕ → Line
+refusedLine r = say (Words.Refused r)
+
+-- the word that an answer begins with, and the number behind it
+abbrev pub wordFor : Words → List ℕ
+wordFor Words.Ok = 111 ∷ 107 ∷ []  -- ok
+wordFor (Words.Begin n) = 98 ∷ 101 ∷ 103 ∷ 105 ∷ 110 ∷ []  -- begin
+wordFor (Words.Commit n) = 99 ∷ 111 ∷ 109 ∷ 109 ∷ 105 ∷ 116 ∷ []  -- commit
+wordFor (Words.Cycle n) = 99 ∷ 121 ∷ 99 ∷ 108 ∷ 101 ∷ []  -- cycle
+wordFor (Words.Swept c) = 115 ∷ 119 ∷ 101 ∷ 112 ∷ 116 ∷ []  -- swept
+wordFor Words.Good = 103 ∷ 111 ∷ 111 ∷ 100 ∷ []  -- good
+wordFor Words.Bad = 98 ∷ 97 ∷ 100 ∷ []  -- bad
+wordFor (Words.Refused r) = 114 ∷ 101 ∷ 102 ∷ 117 ∷ 115 ∷ 101 ∷ 100 ∷ []  -- refused
+
+abbrev pub numberFor : Words → List ℕ
+numberFor Words.Ok = []
+numberFor (Words.Begin n) = n ∷ []
+numberFor (Words.Commit n) = n ∷ []
+numberFor (Words.Cycle n) = n ∷ []
+numberFor (Words.Swept c) = c ∷ []
+numberFor Words.Good = []
+numberFor Words.Bad = []
+numberFor (Words.Refused r) = r ∷ []
+
+-- the same of a line
 abbrev pub wordOf : Line → List ℕ
-wordOf ok = 111 ∷ 107 ∷ []  -- ok
-wordOf (begin n) = 98 ∷ 101 ∷ 103 ∷ 105 ∷ 110 ∷ []  -- begin
-wordOf (commit n) = 99 ∷ 111 ∷ 109 ∷ 109 ∷ 105 ∷ 116 ∷ []  -- commit
-wordOf (cycle n) = 99 ∷ 121 ∷ 99 ∷ 108 ∷ 101 ∷ []  -- cycle
-wordOf (swept c) = 115 ∷ 119 ∷ 101 ∷ 112 ∷ 116 ∷ []  -- swept
-wordOf good = 103 ∷ 111 ∷ 111 ∷ 100 ∷ []  -- good
-wordOf bad = 98 ∷ 97 ∷ 100 ∷ []  -- bad
+wordOf (say w) = wordFor w
 wordOf (order l) = 111 ∷ 114 ∷ 100 ∷ 101 ∷ 114 ∷ []  -- order
-wordOf (refused r) = 114 ∷ 101 ∷ 102 ∷ 117 ∷ 115 ∷ 101 ∷ 100 ∷ []  -- refused
 
--- the numbers behind it
 abbrev pub numbersOf : Line → List ℕ
-numbersOf ok = []
-numbersOf (begin n) = n ∷ []
-numbersOf (commit n) = n ∷ []
-numbersOf (cycle n) = n ∷ []
-numbersOf (swept c) = c ∷ []
-numbersOf good = []
-numbersOf bad = []
+numbersOf (say w) = numberFor w
 numbersOf (order l) = l
-numbersOf (refused r) = r ∷ []
 
 abbrev pub lineBytes : Line → List ℕ
 lineBytes x = textOf (wordOf x) (numbersOf x)

@@ -5,8 +5,7 @@ ghost use lib.ListN.{take};
 ghost use Rattle.endian.specs.Laid.{stored};
 ghost use Rattle.decimal.specs.Written.{writtenCount};
 ghost use Rattle.text.specs.Text.{textOf};
-ghost use Rattle.lines.specs.Line.{lineBytes, order};
-ghost use Rattle.lines.specs.Writing.{lineOf};
+ghost use Rattle.lines.specs.Line.{lineBytes, Line.say, Line.order};
 
 // Every answer but the order.
 pub enum Words {
@@ -42,8 +41,8 @@ fn put_numbered(word: &[u8], x: u32, out: &mut [u8], place: usize) -> usize
 // Writes the answer's line from the place on and says how many bytes it has. Without room for all of it nothing is written, and the
 // answer is 0; no line is empty.
 pub fn write_line(words: Words, out: &mut [u8], place: usize) -> usize
-    ensures answer { λ r. ⌜ r ≡ writtenCount (now (out .entry)) place (lineBytes (lineOf words)) ⌝ }
-    ensures buffer { λ _. ⌜ now (out .exit) ≡ stored (now (out .entry)) place (lineBytes (lineOf words)) ⌝ }
+    ensures answer { λ r. ⌜ r ≡ writtenCount (now (out .entry)) place (lineBytes (say words)) ⌝ }
+    ensures buffer { λ _. ⌜ now (out .exit) ≡ stored (now (out .entry)) place (lineBytes (say words)) ⌝ }
 {
     match words {
         Words::Ok => put_word(b"ok", out, place),

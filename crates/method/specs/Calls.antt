@@ -54,6 +54,10 @@ checks t (forget n) =
     (1, isClosed t) ∷ (2, unknown t n) ∷ (4, not (committed (rowOfNumber t n))) ∷ (9, mayNotForget t (rowOfNumber t n)) ∷ []
 checks t sweep = (1, isClosed t) ∷ []
 
+-- every refusal of a call: RULES, Refusals
+abbrev pub callRefusals : List ℕ
+callRefusals = 1 ∷ 2 ∷ 3 ∷ 4 ∷ 5 ∷ 6 ∷ 7 ∷ 8 ∷ 9 ∷ []
+
 -- refusal k is the first whose condition holds; no condition holds
 abbrev pub FirstHolds : List (ℕ × Type 0) → ℕ → Type 0
 FirstHolds [] k = ⊥

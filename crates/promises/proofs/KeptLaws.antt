@@ -1,44 +1,39 @@
 -- The kept rows of a run at the desk, and so in all lines of the service. Assumes nothing.
 use mathlib.Core.Path.{_≡_, refl, sym}
-use mathlib.Core.List.{List, List·Memᴰ·head as here, List·Memᴰ·tail as there, List·Memᴰ·not-nil}
-use Prim.Native.Nat.{ℕ, _≤_}
-use native.Mathlib.Omega.{arith}
+use mathlib.Core.List.{List, _∷_, List·Memᴰ·head as here, List·Memᴰ·tail as there, List·Memᴰ·not-nil}
+use Prim.Native.Nat.{ℕ}
 use Rattle.graph.specs.Lists.{_∈_}
 use Rattle.orders.specs.Entries.{entriesIn}
 use Rattle.orders.specs.Good.{GoodRows}
 use Rattle.orders.specs.Order.{InOrder}
 use mathlib.Core.Option.{Option, none, some}
-use Rattle.wire.specs.Message.{Message, opening, beginning, ticketing, preparing, aborting, deciding, forgetting, sweeping, proposing, ordering}
+use Rattle.wire.specs.Message.{Message}
 use Rattle.wire.specs.Body.{messageOf}
 use Rattle.frames.specs.Stream.{Stream, ended, cutOff, framed}
-use Rattle.lines.specs.Line.{Line}
+use Rattle.lines.specs.Line.{Line, refusedLine}
 use Rattle.method.specs.Slots.{keptEntries, keptFlat}
-use Rattle.method.specs.Calls.Call.{openWith, begin, reportTicket, reportPrepared, abort, decide, forget, sweep}
+use Rattle.method.specs.Calls.{callRefusals}
 use Rattle.runs.specs.Run.{Run, Run.call, after}
 use Rattle.runs.specs.History.{history}
 use Rattle.runs.proofs.HistoryLaws.{invariant-run}
 use Rattle.invariant.proofs.KeptLaws.{rows-of-kept, kept-good, kept-ordered}
-use Rattle.replies.specs.Desk.{desk, deskRead, deskBody}
+use Rattle.replies.specs.Desk.{Asks, Asks.calls, Asks.proposes, Asks.wantsOrder, asksFor, replyTo, desk, deskRead, deskBody}
 use Rattle.turns.specs.Lines.{linesOf}
-use Rattle.replies.proofs.OrderedLaws.{body-low}
+use Rattle.replies.proofs.OrderedLaws.{body-listed}
 
 -- the table of the service is at each message the table after some run of calls
 pub desk-run : (r : Run) (b : List ℕ) → (q : Run) × (deskBody (after r) b .0 ≡ after q)
 unfolding desk after
 desk-run r b = go (messageOf b)
   where
+    reply : (a : Asks) → (q : Run) × (replyTo (after r) a .0 ≡ after q)
+    reply (calls c) = (call r c, refl)
+    reply (proposes ns) = (r, refl)
+    reply wantsOrder = (r, refl)
+
     go : (o : Option Message) → (q : Run) × (deskRead (after r) o .0 ≡ after q)
     go none = (r, refl)
-    go (some (opening n fs)) = (call r (openWith n fs), refl)
-    go (some (beginning s)) = (call r (begin s), refl)
-    go (some (ticketing n s j)) = (call r (reportTicket n s j), refl)
-    go (some (preparing n s)) = (call r (reportPrepared n s), refl)
-    go (some (aborting n)) = (call r (abort n), refl)
-    go (some (deciding n)) = (call r (decide n), refl)
-    go (some (forgetting n)) = (call r (forget n), refl)
-    go (some sweeping) = (call r sweep, refl)
-    go (some (proposing ns)) = (r, refl)
-    go (some ordering) = (r, refl)
+    go (some m) = reply (asksFor m)
 
 module _ (r : Run) where
   pub run-good : GoodRows (keptFlat (after r))
@@ -53,12 +48,12 @@ module _ (r : Run) where
   pub flat-ordered : (o : List ℕ) × InOrder (entriesIn (keptFlat (after r))) o
   flat-ordered = rw run-rows run-ordered
 
-pub never-in-lines : (s : Stream) (r : Run) (k : ℕ) → Line.refused k ∈ linesOf (after r) s → k ≤ 11
+pub never-in-lines : (s : Stream) (r : Run) (k : ℕ) → refusedLine k ∈ linesOf (after r) s → k ∈ 11 ∷ 10 ∷ callRefusals
 unfolding linesOf
 never-in-lines ended r k i = absurd (List·Memᴰ·not-nil i)
-never-in-lines (cutOff l) r k (here e) = let f : k ≡ 11 = cc in omega (arith, f)
+never-in-lines (cutOff l) r k (here e) = here (let f : k ≡ 11 = cc in f)
 never-in-lines (cutOff l) r k (there i) = absurd (List·Memᴰ·not-nil i)
-never-in-lines (Stream.refused l) r k (here e) = let f : k ≡ 11 = cc in omega (arith, f)
+never-in-lines (Stream.refused l) r k (here e) = here (let f : k ≡ 11 = cc in f)
 never-in-lines (Stream.refused l) r k (there i) = absurd (List·Memᴰ·not-nil i)
-never-in-lines (framed b s) r k (here e) = omega (arith, body-low (after r) (run-good r) (flat-ordered r) k b (sym e))
+never-in-lines (framed b s) r k (here e) = there (body-listed (after r) (run-good r) (flat-ordered r) k b (sym e))
 never-in-lines (framed b s) r k (there i) = let (q, e) = desk-run r b in never-in-lines s q k (rw e at i)

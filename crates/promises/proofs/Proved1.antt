@@ -27,7 +27,7 @@ use Rattle.frames.proofs.StreamLaws.{stream-of-nothing, stream-of-cut, stream-o
 use Rattle.wire.proofs.MeaningLaws.{body-means, body-of-means, read-means, read-of-means}
 use Rattle.frames.proofs.AnswerLaws.{frame-means, frame-of-means}
 use Rattle.sending.proofs.MeaningLaws.{write-means, write-of-means}
-use Rattle.lines.specs.Line.{Line}
+use Rattle.lines.specs.Line.{Line, refusedLine}
 use Rattle.lines.proofs.LineLaws.{one-line}
 use Rattle.lines.proofs.ReadingLaws.{outputBytes-injective}
 use Rattle.method.specs.declared.Table as method
@@ -38,7 +38,7 @@ use Rattle.method.proofs.RecordLaws.{never}
 use Rattle.method.proofs.CallLaws.{refused-keeps as step-keeps, refused-exactly as step-refused}
 use Rattle.runs.proofs.FollowLaws.{follows, unknown-iff-over}
 use Rattle.table.specs.Shut.{shutTable}
-use Rattle.replies.specs.Desk.{told, desk, deskBody}
+use Rattle.replies.specs.Desk.{Asks, Asks.calls, asksFor, replyTo, desk, deskBody}
 use Rattle.turns.specs.Lines.{linesOf}
 use Rattle.turns.specs.Turn.{turn}
 use Rattle.turns.proofs.PieceLaws.{turn-rest, pieces-whole}
@@ -90,28 +90,28 @@ refused-exactly = record {
   four = four-of-open;
 }
 
-serves-call : (t : method.Table) (m : Message) (c : Call) → callOf m ≡ some c → desk t m ≡ told (step t c)
-unfolding desk
-serves-call t (opening n fs) c e = rw (Option·some-injective (openWith n fs) c e)
-serves-call t (beginning s) c e = rw (Option·some-injective (begin s) c e)
-serves-call t (ticketing n s k) c e = rw (Option·some-injective (reportTicket n s k) c e)
-serves-call t (preparing n s) c e = rw (Option·some-injective (reportPrepared n s) c e)
-serves-call t (aborting n) c e = rw (Option·some-injective (abort n) c e)
-serves-call t (deciding n) c e = rw (Option·some-injective (decide n) c e)
-serves-call t (forgetting n) c e = rw (Option·some-injective (forget n) c e)
-serves-call t sweeping c e = rw (Option·some-injective sweep c e)
-serves-call t (proposing ns) c e = absurd (Option·none-ne-some c e)
-serves-call t ordering c e = absurd (Option·none-ne-some c e)
+asks-of-call : (m : Message) (c : Call) → callOf m ≡ some c → asksFor m ≡ calls c
+asks-of-call (opening n fs) c e = ap {B = Asks} calls (Option·some-injective (openWith n fs) c e)
+asks-of-call (beginning s) c e = ap {B = Asks} calls (Option·some-injective (begin s) c e)
+asks-of-call (ticketing n s k) c e = ap {B = Asks} calls (Option·some-injective (reportTicket n s k) c e)
+asks-of-call (preparing n s) c e = ap {B = Asks} calls (Option·some-injective (reportPrepared n s) c e)
+asks-of-call (aborting n) c e = ap {B = Asks} calls (Option·some-injective (abort n) c e)
+asks-of-call (deciding n) c e = ap {B = Asks} calls (Option·some-injective (decide n) c e)
+asks-of-call (forgetting n) c e = ap {B = Asks} calls (Option·some-injective (forget n) c e)
+asks-of-call sweeping c e = ap {B = Asks} calls (Option·some-injective sweep c e)
+asks-of-call (proposing ns) c e = absurd (Option·none-ne-some c e)
+asks-of-call ordering c e = absurd (Option·none-ne-some c e)
 
 pub serves : Serves
-serves t m c h e = rw (message-of-body m h) (serves-call t m c e)
+unfolding desk
+serves t m c h e = rw (message-of-body m h) (ap (replyTo t) (asks-of-call m c e))
 
 -- the lines of a stream, by what stands in front
 lines-of-whole : (t : method.Table) (b r : List ℕ) → length b ≤ 160 → linesFor t (frameOf b ++ r) ≡ deskBody t b .1 ∷ linesFor (deskBody t b .0) r
 unfolding linesOf
 lines-of-whole t b r h = rw (stream-of-whole (frameOf b ++ r) b r (next-of-means (frameOf b ++ r) (whole b r) (record { bytes = refl; short = h })))
 
-lines-of-eleven : (t : method.Table) (l : List ℕ) → Bad l ⊎ Cut l → linesFor t l ≡ Line.refused 11 ∷ []
+lines-of-eleven : (t : method.Table) (l : List ℕ) → Bad l ⊎ Cut l → linesFor t l ≡ refusedLine 11 ∷ []
 unfolding linesOf
 lines-of-eleven t l (inl h) = rw (stream-of-bad l (next-of-means l bad h))
 lines-of-eleven t l (inr h) = rw (stream-of-cut l (next-of-means l cut h))

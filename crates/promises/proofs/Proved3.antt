@@ -24,7 +24,7 @@ use Rattle.runs.proofs.ReportedLaws.{history-commits, history-reported}
 use Rattle.promises.specs.Demand3.{OrderCheck, CCall, OrderWriter, History, KeptRows, NeverInStream}
 use Rattle.orders.proofs.WriteIffLaws.{bad-written, no-room-written, no-order-written, wrote-written, written-of-order}
 use Rattle.orders.proofs.JudgedIffLaws.{bad-iff, yes-iff, no-iff}
-use Rattle.replies.proofs.OrderedLaws.{body-low, desk-order, proposal-iff}
+use Rattle.replies.proofs.OrderedLaws.{body-listed, desk-order, proposal-iff}
 use Rattle.promises.proofs.KeptLaws.{run-good, run-rows, run-ordered, flat-ordered, never-in-lines}
 
 -- an answer by its reply
@@ -80,7 +80,7 @@ kept-rows r = record {
   rows = run-rows r;
   good = run-good r;
   ordered = run-ordered r;
-  never = λ b k. body-low (after r) (run-good r) (flat-ordered r) k b;
+  never = λ b k. body-listed (after r) (run-good r) (flat-ordered r) k b;
   order = λ nc. rw (run-rows r) at (desk-order (after r) (run-good r) (flat-ordered r) nc);
   proposal = λ ns nc. rw (run-rows r) at (proposal-iff (after r) (run-good r) (flat-ordered r) nc ns .0);
   refusal = λ ns nc. rw (run-rows r) at (proposal-iff (after r) (run-good r) (flat-ordered r) nc ns .1);

@@ -24,8 +24,7 @@ use Rattle.frames.specs.Stream.{streamOf}
 use Rattle.wire.specs.Answers.{bodyAnswer, readAnswer}
 use Rattle.frames.specs.Answer.{frameAnswer}
 use Rattle.sending.specs.Writing.{writeAnswer, written}
-use Rattle.lines.specs.Line.{lineBytes, order}
-use Rattle.lines.specs.Writing.{lineOf}
+use Rattle.lines.specs.Line.{lineBytes, Line.say, Line.order}
 use Rattle.lines.specs.declared.Words.{Words}
 use Rattle.method.specs.declared.Answer.{Answer}
 use Rattle.method.specs.Calls.{Call}
@@ -70,7 +69,7 @@ MessageGives b out place r after = (r ≡ writeAnswer b out place) × (after ≡
 
 -- lines::write_line(words, out, place) and write_order(numbers, count, out, place)
 abbrev pub LineGives : Words → List ℕ → ℕ → ℕ → List ℕ → Type 0
-LineGives w out place n after = (n ≡ writtenCount out place (lineBytes (lineOf w))) × (after ≡ stored out place (lineBytes (lineOf w)))
+LineGives w out place n after = (n ≡ writtenCount out place (lineBytes (say w))) × (after ≡ stored out place (lineBytes (say w)))
 
 abbrev pub OrderGives : List ℕ → ℕ → List ℕ → ℕ → ℕ → List ℕ → Type 0
 OrderGives numbers count out place n after =

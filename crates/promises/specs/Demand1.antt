@@ -21,7 +21,7 @@ use Rattle.frames.specs.Stream.{streamOf}
 use Rattle.wire.specs.Meaning.{NoBody, BodyMeans, ReadMeans}
 use Rattle.frames.specs.Answer.{FrameMeans}
 use Rattle.sending.specs.Meaning.{WriteMeans, writeRefusal}
-use Rattle.lines.specs.Line.{Line, lineBytes}
+use Rattle.lines.specs.Line.{Line, lineBytes, refusedLine}
 use Rattle.lines.specs.Reading.{OneLine, outputBytes}
 use Rattle.method.specs.declared.Answer.{Answer}
 use Rattle.method.specs.declared.Table as method
@@ -73,7 +73,7 @@ pub record RefusedKeeps : Type 0 where
   pub roomless : (t : Table) (b out : List ℕ) (place : ℕ) (r : Served) (after : List ℕ) → ServeGives t b out place r after → length out < place + 358
       → (r .table ≡ t) × (r .count ≡ 0) × (after ≡ out)
   -- and a message of the service that is answered with a refusal leaves its table
-  pub served : (t : method.Table) (b : List ℕ) (k : ℕ) → deskBody t b .1 ≡ Line.refused k → deskBody t b .0 ≡ t
+  pub served : (t : method.Table) (b : List ℕ) (k : ℕ) → deskBody t b .1 ≡ refusedLine k → deskBody t b .0 ≡ t
 
 -- each refusal is given exactly when it should be. Those of the orders (13, 14, 12) and of the C call are in Demand3.
 pub record RefusedExactly : Type 0 where
@@ -89,9 +89,9 @@ pub record RefusedExactly : Type 0 where
   pub writes : (b out : List ℕ) (place : ℕ) (r : messages.WriteAnswer) (after : List ℕ) → Below 256 b → MessageGives b out place r after
       → (x : messages.WriteAnswer) → (x ≡ r) ↔ WriteMeans b out place x
   -- a body at the service: 10 exactly if it is no message's, then 1 before a good opening, and 4 for an opening after one
-  pub ten : (t : method.Table) (b : List ℕ) → Below 256 b → (deskBody t b .1 ≡ Line.refused 10) ↔ NoBody b
-  pub one : (t : method.Table) (m : Message) → InRange m → ((n : ℕ) (fs : List ℕ) → m ≢ opening n fs) → Closed t → deskBody t (bodyOf m) ≡ (t, Line.refused 1)
-  pub four : (t : method.Table) (n : ℕ) (fs : List ℕ) → InRange (opening n fs) → ¬ Closed t → deskBody t (bodyOf (opening n fs)) ≡ (t, Line.refused 4)
+  pub ten : (t : method.Table) (b : List ℕ) → Below 256 b → (deskBody t b .1 ≡ refusedLine 10) ↔ NoBody b
+  pub one : (t : method.Table) (m : Message) → InRange m → ((n : ℕ) (fs : List ℕ) → m ≢ opening n fs) → Closed t → deskBody t (bodyOf m) ≡ (t, refusedLine 1)
+  pub four : (t : method.Table) (n : ℕ) (fs : List ℕ) → InRange (opening n fs) → ¬ Closed t → deskBody t (bodyOf (opening n fs)) ≡ (t, refusedLine 4)
 
 -- each message is one call, but for the two on orders, of which Demand3 speaks
 abbrev pub callOf : Message → Option Call
@@ -120,8 +120,8 @@ pub record Lines : Type 0 where
   -- nothing left writes nothing; a message gets one line and reading goes on behind it, after 10 too; 11 is the last line
   pub nothing : (t : method.Table) → linesFor t [] ≡ []
   pub message : (t : method.Table) (b r : List ℕ) → length b ≤ 160 → linesFor t (frameOf b ++ r) ≡ deskBody t b .1 ∷ linesFor (deskBody t b .0) r
-  pub ten : (t : method.Table) (b r : List ℕ) → length b ≤ 160 → Below 256 b → NoBody b → linesFor t (frameOf b ++ r) ≡ Line.refused 10 ∷ linesFor t r
-  pub eleven : (t : method.Table) (l : List ℕ) → Bad l ⊎ Cut l → linesFor t l ≡ Line.refused 11 ∷ []
+  pub ten : (t : method.Table) (b r : List ℕ) → length b ≤ 160 → Below 256 b → NoBody b → linesFor t (frameOf b ++ r) ≡ refusedLine 10 ∷ linesFor t r
+  pub eleven : (t : method.Table) (l : List ℕ) → Bad l ⊎ Cut l → linesFor t l ≡ refusedLine 11 ∷ []
   -- each is one line of text, and the bytes of all of them determine them
   pub text : (x : Line) → OneLine (lineBytes x)
   pub lines : (xs ys : List Line) → outputBytes xs ≡ outputBytes ys → xs ≡ ys

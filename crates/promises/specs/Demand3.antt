@@ -1,7 +1,7 @@
 -- Demand 3: an order is accepted exactly by the rule, our writer gives one whenever one exists and there is room, and for every sequence
 -- of calls an order exists for all committed since the opening, forgotten ones too. proofs/Proved3.antt has a proof of each.
 use mathlib.Core.Path.{_≡_}
-use mathlib.Core.List.{List, _++_}
+use mathlib.Core.List.{List, _∷_, _++_}
 use mathlib.Core.Logic.{_↔_}
 use Prim.Native.Nat.{ℕ, _+_, _<_, _≤_}
 use lib.ListN.{length, take, drop}
@@ -19,11 +19,12 @@ use Rattle.method.specs.declared.Table as method
 use Rattle.method.specs.Records.{closed}
 use Rattle.method.specs.Slots.{keptEntries, keptFlat}
 use Rattle.method.specs.Conditions.{Closed}
+use Rattle.method.specs.Calls.{callRefusals}
 use Rattle.runs.specs.Run.{Run, after, Happened, TakesTicket, Commits}
 use Rattle.runs.specs.History.{history}
 use Rattle.wire.specs.Message.{proposing, ordering}
 use Rattle.frames.specs.Stream.{streamOf}
-use Rattle.lines.specs.Line.{Line}
+use Rattle.lines.specs.Line.{Line, badLine, goodLine, refusedLine}
 use Rattle.replies.specs.Desk.{desk, deskBody}
 use Rattle.turns.specs.Lines.{linesOf}
 use Rattle.promises.specs.Contracts.{CheckGives, CCheckGives, WriteGives}
@@ -82,18 +83,18 @@ pub record KeptOf (r : Run) : Type 0 where
   pub rows : entriesIn (keptFlat (after r)) ≡ keptEntries (after r)
   pub good : GoodRows (keptFlat (after r))
   pub ordered : (o : List ℕ) × InOrder (keptEntries (after r)) o
-  -- so a message is never answered 12 or 13, nor 11 or 14, whatever it is
-  pub never : (b : List ℕ) (k : ℕ) → deskBody (after r) b .1 ≡ Line.refused k → k ≤ 10
+  -- so a message is never answered 12 or 13, nor 11 or 14, whatever it is: only 10 and what calls are refused with
+  pub never : (b : List ℕ) (k : ℕ) → deskBody (after r) b .1 ≡ refusedLine k → k ∈ 10 ∷ callRefusals
   -- an order is answered with an order, the smallest number first
   pub order : ¬ Closed (after r)
       → (o : List ℕ) × (desk (after r) ordering ≡ (after r, Line.order o)) × InOrder (keptEntries (after r)) o × SmallestFirst EntryArrow numberOf (keptEntries (after r)) o
   -- a proposal is good exactly if it is an order, and else bad
-  pub proposal : (ns : List ℕ) → ¬ Closed (after r) → (desk (after r) (proposing ns) ≡ (after r, Line.good)) ↔ InOrder (keptEntries (after r)) ns
-  pub refusal : (ns : List ℕ) → ¬ Closed (after r) → (desk (after r) (proposing ns) ≡ (after r, Line.bad)) ↔ (¬ InOrder (keptEntries (after r)) ns)
+  pub proposal : (ns : List ℕ) → ¬ Closed (after r) → (desk (after r) (proposing ns) ≡ (after r, goodLine)) ↔ InOrder (keptEntries (after r)) ns
+  pub refusal : (ns : List ℕ) → ¬ Closed (after r) → (desk (after r) (proposing ns) ≡ (after r, badLine)) ↔ (¬ InOrder (keptEntries (after r)) ns)
 
 abbrev pub KeptRows : Type 0
 KeptRows = (r : Run) → KeptOf r
 
--- no line of the service is 12, 13 or 14, whatever bytes it reads
+-- no line of the service is 12, 13 or 14, whatever bytes it reads: only 11, 10 and what calls are refused with
 abbrev pub NeverInStream : Type 0
-NeverInStream = (l : List ℕ) (k : ℕ) → Line.refused k ∈ linesOf closed (streamOf l) → k ≤ 11
+NeverInStream = (l : List ℕ) (k : ℕ) → refusedLine k ∈ linesOf closed (streamOf l) → k ∈ 11 ∷ 10 ∷ callRefusals

@@ -11,8 +11,7 @@ use Rattle.endian.specs.Laid.{laid}
 use Rattle.graph.specs.Acyclic.{acyclic}
 use Rattle.graph.specs.Order.{greedy}
 use Rattle.lines.specs.declared.Words.{Words}
-use Rattle.lines.specs.Writing.{lineOf}
-use Rattle.lines.specs.Line.{Line, good, bad, order, refused}
+use Rattle.lines.specs.Line.{Line, Line.say, Line.order, goodLine, badLine, refusedLine}
 use Rattle.orders.specs.Entries.{numberOf, entryArrowb, entriesIn}
 use Rattle.orders.specs.Good.{goodb}
 use Rattle.orders.specs.Judged.{judged}
@@ -32,7 +31,7 @@ pub proposal-said : (flat ns : List ℕ) → replySaid (checkResult flat ns) ≡
 unfolding checkResult
 proposal-said flat ns = go (goodb flat) (inOrderb (entriesIn flat) ns)
   where
-    go : (g o : Bool) → replySaid (judged (Reply.refused 13) Reply.yes Reply.no g o) ≡ saidOf (judged (refused 13) good bad g o)
+    go : (g o : Bool) → replySaid (judged (Reply.refused 13) Reply.yes Reply.no g o) ≡ saidOf (judged (refusedLine 13) goodLine badLine g o)
     go false o = refl
     go true true = refl
     go true false = refl
@@ -53,7 +52,7 @@ module _ (flat : List ℕ) (h : length flat ≤ 288) where
       answer g a = cond g (cond a (Reply.wrote (length o), laid noNumbers 0 o) (Reply.refused 12, noNumbers)) (Reply.refused 13, noNumbers)
 
       line : Bool → Bool → Line
-      line g a = cond g (cond a (order o) (refused 12)) (refused 13)
+      line g a = cond g (cond a (order o) (refusedLine 12)) (refusedLine 13)
 
       go : (g a : Bool) → (replySaid (answer g a .0) ≡ saidOf (line g a)) × (answer g a .1 ≡ numbersFor (line g a))
       go false a = (refl, refl)
@@ -62,7 +61,7 @@ module _ (flat : List ℕ) (h : length flat ≤ 288) where
 
 -- the same of the code's answers
 module _ (flat : List ℕ) (x : Reply) where
-  pub proposal-line : (ns : List ℕ) → x ≡ checkResult flat ns → (w : Words) → Said.Words w ≡ replySaid x → lineOf w ≡ proposalLine flat ns
+  pub proposal-line : (ns : List ℕ) → x ≡ checkResult flat ns → (w : Words) → Said.Words w ≡ replySaid x → say w ≡ proposalLine flat ns
   proposal-line ns g w e = line-of-words (proposalLine flat ns) w (e ∙ ap replySaid g ∙ proposal-said flat ns)
 
   pub order-spoken : (after : List ℕ) → length flat ≤ 288 → (x ≡ writeResult flat 0 noNumbers .0) × (after ≡ writeResult flat 0 noNumbers .1)
@@ -73,9 +72,9 @@ module _ (flat : List ℕ) (x : Reply) where
       let b : after ≡ numbersFor (orderLine flat) = g .1 ∙ o .1 in
       rw (a, b)
 
-pub open-spoken : (t : Table) (x : Line) (r s : Spoken) → r ≡ cond (isClosed t) (spokenOf (refused 1)) s → s ≡ spokenOf x → r ≡ spokenOf (ifOpen t x)
+pub open-spoken : (t : Table) (x : Line) (r s : Spoken) → r ≡ cond (isClosed t) (spokenOf (refusedLine 1)) s → s ≡ spokenOf x → r ≡ spokenOf (ifOpen t x)
 open-spoken t x r s g e = g ∙ rw e (go (isClosed t))
   where
-    go : (b : Bool) → cond b (spokenOf (refused 1)) (spokenOf x) ≡ spokenOf (cond b (refused 1) x)
+    go : (b : Bool) → cond b (spokenOf (refusedLine 1)) (spokenOf x) ≡ spokenOf (cond b (refusedLine 1) x)
     go true = refl
     go false = refl

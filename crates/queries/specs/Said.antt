@@ -4,43 +4,27 @@ use Prim.Native.Nat.{ℕ}
 use lib.ListN.{length, replicate, take}
 use Rattle.endian.specs.Laid.{laid}
 use Rattle.lines.specs.declared.Words.{Words}
-use Rattle.lines.specs.Line.{Line, ok, begin, commit, cycle, swept, good, bad, order, refused}
-use Rattle.lines.specs.Writing.{lineOf}
+use Rattle.lines.specs.Line.{Line, Line.say, Line.order}
 use Rattle.orders.specs.Reply.{Reply}
 use Rattle.queries.specs.declared.Said.{Said}
 use Rattle.queries.specs.declared.Spoken.{Spoken}
 
 -- the line that is meant
 abbrev pub saidLine : Said → List ℕ → Line
-saidLine (Said.Words w) numbers = lineOf w
+saidLine (Said.Words w) numbers = say w
 saidLine (Said.Order n) numbers = order (take n numbers)
 
--- and the one way in which the code says a line
+-- and the one way in which the code says a line: the words, or the length of the order, with its numbers from the front and zeros behind
 abbrev pub saidOf : Line → Said
-saidOf ok = Said.Words Words.Ok
-saidOf (begin n) = Said.Words (Words.Begin n)
-saidOf (commit n) = Said.Words (Words.Commit n)
-saidOf (cycle n) = Said.Words (Words.Cycle n)
-saidOf (swept c) = Said.Words (Words.Swept c)
-saidOf good = Said.Words Words.Good
-saidOf bad = Said.Words Words.Bad
+saidOf (say w) = Said.Words w
 saidOf (order l) = Said.Order (length l)
-saidOf (refused r) = Said.Words (Words.Refused r)
 
 abbrev pub noNumbers : List ℕ
 noNumbers = replicate 32 0
 
--- the order from the front, zeros behind it
 abbrev pub numbersFor : Line → List ℕ
-numbersFor ok = noNumbers
-numbersFor (begin n) = noNumbers
-numbersFor (commit n) = noNumbers
-numbersFor (cycle n) = noNumbers
-numbersFor (swept c) = noNumbers
-numbersFor good = noNumbers
-numbersFor bad = noNumbers
+numbersFor (say w) = noNumbers
 numbersFor (order l) = laid noNumbers 0 l
-numbersFor (refused r) = noNumbers
 
 abbrev pub spoken : Said → List ℕ → Spoken
 spoken s l = record { said = s; numbers = l }

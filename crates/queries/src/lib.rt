@@ -2,8 +2,7 @@
 // writes it as text. RULES, Orders; The service.
 ghost use mathlib.Core.Path.{_≡_};
 ghost use mathlib.Core.Bool.{cond};
-ghost use Rattle.lines.specs.Line.{refused};
-ghost use Rattle.lines.specs.Writing.{lineOf};
+ghost use Rattle.lines.specs.Line.{Line.say, refusedLine};
 ghost use Rattle.method.specs.Conditions.{isClosed};
 ghost use Rattle.method.specs.Slots.{keptFlat};
 ghost use Rattle.orders.specs.Reply.{checkReply, writeReply};
@@ -33,7 +32,7 @@ pub struct Spoken {
 
 // Words, and no order.
 fn speak(words: Words) -> Spoken
-    ensures answer { λ r. ⌜ r ≡ spokenOf (lineOf words) ⌝ }
+    ensures answer { λ r. ⌜ r ≡ spokenOf (say words) ⌝ }
 {
     let said = Said::Words(words);
     let numbers = [0; 32];
@@ -45,7 +44,7 @@ fn speak(words: Words) -> Spoken
 
 // Before a good opening there is one answer, whatever else was to be said.
 fn if_open(t: Table, s: Spoken) -> Spoken
-    ensures answer { λ r. ⌜ r ≡ cond (isClosed (t .held)) (spokenOf (refused 1)) s ⌝ }
+    ensures answer { λ r. ⌜ r ≡ cond (isClosed (t .held)) (spokenOf (refusedLine 1)) s ⌝ }
 {
     if table::is_closed(t) {
         return speak(Words::Refused(1));

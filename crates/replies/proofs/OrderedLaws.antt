@@ -1,11 +1,11 @@
 -- The desk on a table whose kept rows are good and have an order. Assumes nothing.
 use mathlib.Core.Path.{_≡_, refl, sym, ap, _∙_}
 use mathlib.Core.Bool.{Bool, true, false, cond}
-use mathlib.Core.List.{List}
+use mathlib.Core.List.{List, _∷_, List·Memᴰ·head as here, List·Memᴰ·tail as behind}
 use mathlib.Core.Logic.{_↔_, inl, inr}
 use mathlib.Core.Option.{Option, none, some}
-use Prim.Native.Nat.{ℕ, _<_, _≤_}
-use native.Mathlib.Omega.{arith}
+use Prim.Native.Nat.{ℕ}
+use Rattle.graph.specs.Lists.{_∈_}
 use Rattle.graph.specs.Path.{Cycle}
 use Rattle.graph.specs.Acyclic.{acyclic}
 use Rattle.graph.specs.Order.{greedy}
@@ -20,20 +20,19 @@ use Rattle.orders.proofs.ArrowLaws.{arrowb→arrow}
 use Rattle.orders.proofs.GoodLaws.{good→goodb}
 use Rattle.orders.proofs.OrderLaws.{inOrderb→inOrder, inOrder→inOrderb, inOrder-of-greedy, order-exists-iff-no-cycle}
 use Rattle.orders.proofs.WriteLaws.{smallest-first-of-greedy}
-use Rattle.wire.specs.Message.{Message, opening, beginning, ticketing, preparing, aborting, deciding, forgetting, sweeping, proposing, ordering}
+use Rattle.wire.specs.Message.{Message, proposing, ordering}
 use Rattle.wire.specs.Body.{messageOf}
-use Rattle.lines.specs.Line.{Line}
+use Rattle.lines.specs.Line.{Line, badLine, goodLine, refusedLine}
 use Rattle.method.specs.declared.Table.{Table}
 use Rattle.method.specs.Slots.{keptFlat}
 use Rattle.method.specs.Conditions.{Closed, isClosed}
-use Rattle.method.specs.Calls.{Call}
-use Rattle.method.specs.Calls.Call.{openWith, begin, reportTicket, reportPrepared, abort, decide, forget, sweep}
+use Rattle.method.specs.Calls.{callRefusals}
 use Rattle.method.specs.Effects.{step}
 use Rattle.method.proofs.RecordLaws.{never}
 use Rattle.method.proofs.ConditionLaws.{closed-iff}
 use Rattle.queries.specs.Queries.{proposalLine, orderLine, ifOpen}
-use Rattle.replies.specs.Desk.{told, desk, deskRead, deskBody}
-use Rattle.method.proofs.ListedLaws.{refusal-below-ten}
+use Rattle.replies.specs.Desk.{Asks, Asks.calls, Asks.proposes, Asks.wantsOrder, asksFor, replyTo, desk, deskRead, deskBody}
+use Rattle.method.proofs.ListedLaws.{refusal-listed}
 use Rattle.replies.proofs.RefusalLaws.{refused-of-line}
 
 -- over a list of kept rows that is good and has an order
@@ -50,44 +49,34 @@ module _ (t : Table) (g : GoodRows (keptFlat t)) (x : (o : List ℕ) × InOrder 
   order-line : orderLine (keptFlat t) ≡ Line.order (greedy entryArrowb numberOf rows)
   order-line = rw (good→goodb (keptFlat t) g, passes)
 
-  proposal-line : (ns : List ℕ) (b : Bool) → inOrderb rows ns ≡ b → proposalLine (keptFlat t) ns ≡ cond b Line.good Line.bad
+  proposal-line : (ns : List ℕ) (b : Bool) → inOrderb rows ns ≡ b → proposalLine (keptFlat t) ns ≡ cond b goodLine badLine
   proposal-line ns b e = rw (good→goodb (keptFlat t) g, e)
 
   -- no message gets 12 or 13
   module _ (k : ℕ) where
-    call-low : (c : Call) → told (step t c) .1 ≡ Line.refused k → k < 10
-    call-low c e = refusal-below-ten t c k (refused-of-line (step t c .answer) k e)
-
-    open-low : (y : Line) → ¬ (y ≡ Line.refused k) → ifOpen t y ≡ Line.refused k → k < 10
-    open-low y n = go (isClosed t)
+    open-listed : (y : Line) → ¬ (y ≡ refusedLine k) → ifOpen t y ≡ refusedLine k → k ∈ callRefusals
+    open-listed y n = go (isClosed t)
       where
-        go : (b : Bool) → cond b (Line.refused 1) y ≡ Line.refused k → k < 10
-        go true e = let f : 1 ≡ k = cc in omega (arith, f)
+        go : (b : Bool) → cond b (refusedLine 1) y ≡ refusedLine k → k ∈ callRefusals
+        go true e = here (let f : 1 ≡ k = cc in sym f)
         go false e = absurd (n e)
 
-    not-refused : (b : Bool) → ¬ (cond b Line.good Line.bad ≡ Line.refused k)
+    not-refused : (b : Bool) → ¬ (cond b goodLine badLine ≡ refusedLine k)
     not-refused true e = never (cc)
     not-refused false e = never (cc)
 
-    desk-low : (m : Message) → desk t m .1 ≡ Line.refused k → k < 10
-    unfolding desk
-    desk-low (opening n fs) = call-low (openWith n fs)
-    desk-low (beginning s) = call-low (begin s)
-    desk-low (ticketing n s j) = call-low (reportTicket n s j)
-    desk-low (preparing n s) = call-low (reportPrepared n s)
-    desk-low (aborting n) = call-low (abort n)
-    desk-low (deciding n) = call-low (decide n)
-    desk-low (forgetting n) = call-low (forget n)
-    desk-low sweeping = call-low sweep
-    desk-low (proposing ns) = open-low (proposalLine (keptFlat t) ns) (λ e. not-refused (inOrderb rows ns) (sym (proposal-line ns (inOrderb rows ns) refl) ∙ e))
-    desk-low ordering = open-low (orderLine (keptFlat t)) (λ e. let f = sym order-line ∙ e in never (cc))
+    reply-listed : (a : Asks) → replyTo t a .1 ≡ refusedLine k → k ∈ callRefusals
+    reply-listed (calls c) e = refusal-listed t c k (refused-of-line (step t c .answer) k e)
+    reply-listed (proposes ns) e = open-listed (proposalLine (keptFlat t) ns) (λ f. not-refused (inOrderb rows ns) (sym (proposal-line ns (inOrderb rows ns) refl) ∙ f)) e
+    reply-listed wantsOrder e = open-listed (orderLine (keptFlat t)) (λ g. let f = sym order-line ∙ g in never (cc)) e
 
-    pub body-low : (b : List ℕ) → deskBody t b .1 ≡ Line.refused k → k ≤ 10
-    body-low b = go (messageOf b)
+    pub body-listed : (b : List ℕ) → deskBody t b .1 ≡ refusedLine k → k ∈ 10 ∷ callRefusals
+    unfolding desk
+    body-listed b = go (messageOf b)
       where
-        go : (o : Option Message) → deskRead t o .1 ≡ Line.refused k → k ≤ 10
-        go none e = let f : 10 ≡ k = cc in omega (arith, f)
-        go (some m) e = omega (arith, desk-low m e)
+        go : (o : Option Message) → deskRead t o .1 ≡ refusedLine k → k ∈ 10 ∷ callRefusals
+        go none e = here (let f : 10 ≡ k = cc in sym f)
+        go (some m) e = behind (reply-listed (asksFor m) e)
 
   -- what an open table answers
   module _ (nc : ¬ Closed t) where
@@ -98,17 +87,17 @@ module _ (t : Table) (g : GoodRows (keptFlat t)) (x : (o : List ℕ) × InOrder 
     unfolding desk
     desk-order = (greedy entryArrowb numberOf rows, rw (is-open, order-line), inOrder-of-greedy rows (g .apart .numbers) no-cycle, smallest-first-of-greedy rows)
 
-    desk-proposal : (ns : List ℕ) (b : Bool) → inOrderb rows ns ≡ b → desk t (proposing ns) ≡ (t, cond b Line.good Line.bad)
+    desk-proposal : (ns : List ℕ) (b : Bool) → inOrderb rows ns ≡ b → desk t (proposing ns) ≡ (t, cond b goodLine badLine)
     unfolding desk
     desk-proposal ns b e = rw (is-open, proposal-line ns b e)
 
     line : {p q : Table × Line} → p ≡ q → p .1 ≡ q .1
     line e = ap (λ (p : Table × Line). p .1) e
 
-    pub proposal-iff : (ns : List ℕ) → ((desk t (proposing ns) ≡ (t, Line.good)) ↔ InOrder rows ns) × ((desk t (proposing ns) ≡ (t, Line.bad)) ↔ (¬ InOrder rows ns))
+    pub proposal-iff : (ns : List ℕ) → ((desk t (proposing ns) ≡ (t, goodLine)) ↔ InOrder rows ns) × ((desk t (proposing ns) ≡ (t, badLine)) ↔ (¬ InOrder rows ns))
     proposal-iff ns = elim (true-or-false (inOrderb rows ns)) [
       | inl e ↦ let d = desk-proposal ns true e in let o = inOrderb→inOrder rows (g .apart .numbers) ns e in
-          (((λ z. o), λ z. d), ((λ z. let f : Line.good ≡ Line.bad = line (sym d ∙ z) in never (cc)), λ z. absurd (z o)))
+          (((λ z. o), λ z. d), ((λ z. let f : goodLine ≡ badLine = line (sym d ∙ z) in never (cc)), λ z. absurd (z o)))
       | inr e ↦ let d = desk-proposal ns false e in let n : ¬ InOrder rows ns = λ o. true-not-false (inOrder→inOrderb rows (g .apart .numbers) ns o) e in
-          (((λ z. let f : Line.bad ≡ Line.good = line (sym d ∙ z) in never (cc)), λ z. absurd (n z)), ((λ z. n), λ z. d))
+          (((λ z. let f : badLine ≡ goodLine = line (sym d ∙ z) in never (cc)), λ z. absurd (n z)), ((λ z. n), λ z. d))
     ]

@@ -4,7 +4,7 @@ use mathlib.Core.List.{List}
 use Prim.Native.Nat.{ℕ}
 use lib.ListN.{drop}
 use Rattle.endian.specs.Bytes.{words}
-use Rattle.lines.specs.Line.{Line, refused}
+use Rattle.lines.specs.Line.{Line, refusedLine}
 use Rattle.method.specs.Slots.{keptFlat}
 use Rattle.queries.specs.Queries.{proposalLine, orderLine, ifOpen}
 use Rattle.queries.specs.Said.{spokenOf}
@@ -30,8 +30,8 @@ module _ (t : Table) (b : List ℕ) where
   said : (x : Line) → deskBody (t .held) b ≡ (t .held, x) → (u : Table) (s : Spoken) → u ≡ t → s ≡ spokenOf x → Replies u s
   said x d u s e f = rw d (e, f)
 
-  pub nothing-replied : askedOf (bodyAnswer (messageOf b)) ≡ Asked.Nothing → (u : Table) (s : Spoken) → u ≡ t → s ≡ spokenOf (refused 10) → Replies u s
-  nothing-replied h = said (refused 10) (ten-of-no-message (t .held) b (none-of-wrong b (wrong-of-nothing b h)))
+  pub nothing-replied : askedOf (bodyAnswer (messageOf b)) ≡ Asked.Nothing → (u : Table) (s : Spoken) → u ≡ t → s ≡ spokenOf (refusedLine 10) → Replies u s
+  nothing-replied h = said (refusedLine 10) (ten-of-no-message (t .held) b (none-of-wrong b (wrong-of-nothing b h)))
 
   pub proposal-replied : (c : ℕ) → askedOf (bodyAnswer (messageOf b)) ≡ Asked.Proposal c → (s : Spoken)
       → s ≡ spokenOf (ifOpen (t .held) (proposalLine (keptFlat (t .held)) (words (drop 1 b)))) → Replies t s

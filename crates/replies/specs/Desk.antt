@@ -3,7 +3,8 @@
 use mathlib.Core.List.{List}
 use mathlib.Core.Option.{Option, none, some}
 use Prim.Native.Nat.{ℕ}
-use Rattle.lines.specs.Line.{Line, ok, begin, commit, cycle, swept, refused}
+use Rattle.lines.specs.declared.Words.{Words}
+use Rattle.lines.specs.Line.{Line, Line.say, refusedLine}
 use Rattle.wire.specs.Message.{Message, opening, beginning, ticketing, preparing, aborting, deciding, forgetting, sweeping, proposing, ordering}
 use Rattle.wire.specs.Body.{messageOf}
 use Rattle.method.specs.declared.Answer.{Answer}
@@ -14,33 +15,50 @@ use Rattle.method.specs.Calls.{Call}
 use Rattle.method.specs.Effects.{step}
 use Rattle.queries.specs.Queries.{proposalLine, orderLine, ifOpen}
 
--- the line of a call's answer
+-- a call's answer in words, and as a line
+abbrev pub answerWords : Answer → Words
+answerWords Answer.Done = Words.Ok
+answerWords (Answer.Begun n) = Words.Begin (n .0)
+answerWords (Answer.Commit n) = Words.Commit (n .0)
+answerWords (Answer.Cycle n) = Words.Cycle (n .0)
+answerWords (Answer.Swept c) = Words.Swept c
+answerWords (Answer.Refused r) = Words.Refused r
+
 abbrev pub answerLine : Answer → Line
-answerLine Answer.Done = ok
-answerLine (Answer.Begun n) = begin (n .0)
-answerLine (Answer.Commit n) = commit (n .0)
-answerLine (Answer.Cycle n) = cycle (n .0)
-answerLine (Answer.Swept c) = swept c
-answerLine (Answer.Refused r) = refused r
+answerLine a = say (answerWords a)
 
 abbrev pub told : Answered → Table × Line
 told a = (a .table, answerLine (a .answer))
 
+-- what a message asks for: a call, or something of the kept rows, which changes nothing
+pub data Asks : Type 0 where
+  calls : Call → Asks
+  proposes : List ℕ → Asks
+  wantsOrder : Asks
+
+abbrev pub asksFor : Message → Asks
+asksFor (opening n fs) = calls (Call.openWith n fs)
+asksFor (beginning s) = calls (Call.begin s)
+asksFor (ticketing n s k) = calls (Call.reportTicket n s k)
+asksFor (preparing n s) = calls (Call.reportPrepared n s)
+asksFor (aborting n) = calls (Call.abort n)
+asksFor (deciding n) = calls (Call.decide n)
+asksFor (forgetting n) = calls (Call.forget n)
+asksFor sweeping = calls Call.sweep
+asksFor (proposing ns) = proposes ns
+asksFor ordering = wantsOrder
+
+abbrev pub replyTo : Table → Asks → Table × Line
+replyTo t (calls c) = told (step t c)
+replyTo t (proposes ns) = (t, ifOpen t (proposalLine (keptFlat t) ns))
+replyTo t wantsOrder = (t, ifOpen t (orderLine (keptFlat t)))
+
 unfoldable pub desk : Table → Message → Table × Line
-desk t (opening n fs) = told (step t (Call.openWith n fs))
-desk t (beginning s) = told (step t (Call.begin s))
-desk t (ticketing n s k) = told (step t (Call.reportTicket n s k))
-desk t (preparing n s) = told (step t (Call.reportPrepared n s))
-desk t (aborting n) = told (step t (Call.abort n))
-desk t (deciding n) = told (step t (Call.decide n))
-desk t (forgetting n) = told (step t (Call.forget n))
-desk t sweeping = told (step t Call.sweep)
-desk t (proposing ns) = (t, ifOpen t (proposalLine (keptFlat t) ns))
-desk t ordering = (t, ifOpen t (orderLine (keptFlat t)))
+desk t m = replyTo t (asksFor m)
 
 -- a body, which may be no message
 abbrev pub deskRead : Table → Option Message → Table × Line
-deskRead t none = (t, refused 10)
+deskRead t none = (t, refusedLine 10)
 deskRead t (some m) = desk t m
 
 abbrev pub deskBody : Table → List ℕ → Table × Line

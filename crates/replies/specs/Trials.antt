@@ -3,7 +3,8 @@
 use mathlib.Core.List.{List, [], _∷_, _++_, map}
 use Prim.Native.Nat.{ℕ}
 use lib.ListN.{replicate}
-use Rattle.lines.specs.Line.{Line, ok, begin, commit, cycle, swept, good, bad, order, refused}
+use Rattle.lines.specs.declared.Words.{Words}
+use Rattle.lines.specs.Line.{Line, Line.say, Line.order, okLine as ok, goodLine as good, badLine as bad, refusedLine as refused}
 use Rattle.wire.specs.Message.{Message, opening, beginning, ticketing, preparing, aborting, deciding, forgetting, sweeping, proposing, ordering, bodyOf}
 use Rattle.method.specs.declared.Table.{Table}
 use Rattle.replies.specs.Desk.{deskBody}
@@ -28,6 +29,18 @@ both a b c d =
     ∷ ticketing 1 0 a ∷ ticketing 2 0 b ∷ ticketing 2 1 c ∷ ticketing 1 1 d
     ∷ preparing 1 0 ∷ preparing 1 1 ∷ preparing 2 0 ∷ preparing 2 1
     ∷ deciding 1 ∷ deciding 2 ∷ []
+
+abbrev begin : ℕ → Line
+begin n = say (Words.Begin n)
+
+abbrev commit : ℕ → Line
+commit n = say (Words.Commit n)
+
+abbrev cycle : ℕ → Line
+cycle n = say (Words.Cycle n)
+
+abbrev swept : ℕ → Line
+swept c = say (Words.Swept c)
 
 abbrev bothBegun : List Line
 bothBegun = ok ∷ begin 1 ∷ begin 2 ∷ replicate 8 ok

@@ -1,12 +1,11 @@
 // The eight requests that are calls: the table is lent to the call, and its answer is told.
 ghost use mathlib.Core.Path.{_≡_};
-ghost use Rattle.lines.specs.Writing.{lineOf};
 ghost use Rattle.queries.specs.Said.{spokenOf};
 ghost use Rattle.wire.specs.Body.{messageOf};
 ghost use Rattle.wire.specs.Answers.{bodyAnswer};
 ghost use Rattle.table.specs.Shut.{shutTable};
 ghost use Rattle.replies.specs.declared.asked.Asked as sorts;
-ghost use Rattle.replies.specs.Desk.{answerLine, deskBody};
+ghost use Rattle.replies.specs.Desk.{answerWords, answerLine, deskBody};
 ghost use Rattle.replies.specs.Asked.{askedOf};
 use crate::Replied;
 use crate::lists::open;
@@ -22,7 +21,7 @@ use wire::reader::Request;
 
 // A call's answer, as words.
 fn words_of(a: Answer) -> Words
-    ensures line { λ r. ⌜ lineOf r ≡ answerLine a ⌝ }
+    ensures line { λ r. ⌜ r ≡ answerWords a ⌝ }
 {
     match a {
         Answer::Done => Words::Ok,

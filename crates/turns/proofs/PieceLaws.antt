@@ -6,7 +6,7 @@ use Prim.Native.Nat.{ℕ, zero, suc, _+_, _-_}
 use native.Mathlib.Omega.{arith}
 use lib.ListN.{length, drop}
 use lib.Seq.{drop-drop, drop-at}
-use Rattle.lines.specs.Line.{Line, lineBytes, refused}
+use Rattle.lines.specs.Line.{Line, lineBytes, refusedLine}
 use Rattle.lines.specs.Reading.{outputBytes}
 use Rattle.frames.specs.Stream.{Stream, ended, cutOff, framed, streamOf, continued, bytesOf, WellFormed}
 use Rattle.frames.specs.Frame.{frameOf}

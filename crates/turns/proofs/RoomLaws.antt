@@ -8,7 +8,7 @@ use borrow.Author.Tests.{le-leb}
 use native.Mathlib.Omega.{arith}
 use Rattle.endian.specs.Laid.{laid, stored}
 use Rattle.decimal.specs.Written.{writtenCount}
-use Rattle.lines.specs.Line.{refused, InRange}
+use Rattle.lines.specs.Line.{refusedLine, InRange}
 use Rattle.lines.proofs.LineLaws.{length-line-le}
 use Rattle.lines.proofs.WritingLaws.{written-of-358}
 use Rattle.turns.specs.Turn.{eleven}
@@ -25,9 +25,9 @@ pub eleven-room : (out : List ℕ) (place : ℕ) → place + 358 ≤ length out
     → (writtenCount out place eleven ≡ length eleven) × (stored out place eleven ≡ laid out place eleven) × (length eleven ≤ 358)
 unfolding eleven
 eleven-room out place h =
-    let i : InRange (refused 11) = record { numbers = (omega arith, tt); few = omega arith } in
-    let w = written-of-358 out place (refused 11) i h in
-    (sym (w .0), sym (w .1), length-line-le (refused 11) i)
+    let i : InRange (refusedLine 11) = record { numbers = (omega arith, tt); few = omega arith } in
+    let w = written-of-358 out place (refusedLine 11) i h in
+    (sym (w .0), sym (w .1), length-line-le (refusedLine 11) i)
 
 -- what was laid over a list without making it longer fitted
 pub laid-fits : (l v : List ℕ) (place : ℕ) → place ≤ length l → length (laid l place v) ≡ length l → place + length v ≤ length l

@@ -5,7 +5,7 @@ use mathlib.Core.List.{List, [], _++_}
 use Prim.Native.Nat.{ℕ, _+_, _-_}
 use lib.Dec.{leb}
 use lib.ListN.{length}
-use Rattle.lines.specs.Line.{Line, lineBytes, refused}
+use Rattle.lines.specs.Line.{Line, lineBytes, refusedLine}
 use Rattle.frames.specs.Stream.{Stream, ended, cutOff, framed}
 use Rattle.method.specs.declared.Table.{Table}
 use Rattle.replies.specs.Desk.{deskBody}
@@ -24,7 +24,7 @@ abbrev pub stops : Table → Turned
 stops t = turned t 0 [] false
 
 unfoldable pub eleven : List ℕ
-eleven = lineBytes (refused 11)
+eleven = lineBytes (refusedLine 11)
 
 -- 11 is the last line
 abbrev pub ends : Table → Turned

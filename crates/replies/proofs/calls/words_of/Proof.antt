@@ -1,7 +1,7 @@
 -- `replies::calls::words_of` meets its contract: each answer has its own word. Assumes nothing.
 use mathlib.Core.Path.{sym, ap}
 use borrow.Author.Needs.{needs}
-use Rattle.replies.specs.Desk.{answerLine}
+use Rattle.replies.specs.Desk.{answerWords}
 use Rattle.replies.proofs.calls.words_of.Statement.{statement}
 use Rattle.replies.proofs.calls.words_of.Tie as tie
 
@@ -27,22 +27,22 @@ cast-t8 : tie.Need-cast-t8
 cast-t8 c = search needs
 
 returns : tie.Need-returns
-returns c = sym (ap answerLine (c .enum-told .given .1))
+returns c = sym (ap answerWords (c .enum-told .given .1))
 
 returns-2 : tie.Need-returns-2
-returns-2 c = sym (ap answerLine (c .before .a .given .1))
+returns-2 c = sym (ap answerWords (c .before .a .given .1))
 
 returns-3 : tie.Need-returns-3
-returns-3 c = sym (ap answerLine (c .before .a2 .given .1))
+returns-3 c = sym (ap answerWords (c .before .a2 .given .1))
 
 returns-4 : tie.Need-returns-4
-returns-4 c = sym (ap answerLine (c .before .a3 .given .1))
+returns-4 c = sym (ap answerWords (c .before .a3 .given .1))
 
 returns-5 : tie.Need-returns-5
-returns-5 c = sym (ap answerLine (c .before .a4 .given .1))
+returns-5 c = sym (ap answerWords (c .before .a4 .given .1))
 
 returns-6 : tie.Need-returns-6
-returns-6 c = sym (ap answerLine (c .before .a5 .given .1))
+returns-6 c = sym (ap answerWords (c .before .a5 .given .1))
 
 pub words-of-spec : {M : Type 1} → statement M
 words-of-spec =
