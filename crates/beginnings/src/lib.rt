@@ -12,6 +12,8 @@ use method::Answered;
 use method::Number;
 use method::Part;
 use method::Row;
+use method::SITES;
+use method::SLOTS;
 use method::Stage;
 use method::State;
 use method::Table;
@@ -28,7 +30,7 @@ fn are_bad_sites(t: Table, x: u8) -> bool
 }
 
 // Each listed site at the first stage, its base the highest committed ticket there.
-fn based(high: [Ticket; 8], x: u8) -> [Part; 8]
+fn based(high: [Ticket; SITES], x: u8) -> [Part; SITES]
     requires { ⌜ length high ≡ 8 ⌝ }
     ensures answer { λ r. ⌜ r ≡ basedParts high (sitesOf x) (replicate 8 noPart) ⌝ }
 {
@@ -37,7 +39,7 @@ fn based(high: [Ticket; 8], x: u8) -> [Part; 8]
         base: Ticket(0),
         ticket: Ticket(0),
     };
-    let mut parts = [none; 8];
+    let mut parts = [none; SITES];
     let mut left = x;
     while left != 0 {
         let s = u8::trailing_zeros(left) as usize;
@@ -91,7 +93,7 @@ pub fn begin(t: Table, x: u8) -> Answered
         return records::refuse(t, 8);
     }
     let slot = slots::lowest_free(t);
-    if slot == 32 {
+    if slot == SLOTS {
         return records::refuse(t, 7);
     }
     begun(t, x, slot)

@@ -7,6 +7,8 @@ ghost use Rattle.orders.specs.Arrow.{beforeb};
 ghost use Rattle.method.specs.Records.{active, committed, goesb};
 ghost use Rattle.method.specs.Conditions.{hasPred, heldBack};
 use method::Row;
+use method::SITES;
+use method::SLOTS;
 use method::Table;
 use method::Ticket;
 
@@ -22,7 +24,7 @@ fn goes_before(a: Row, b: Row) -> bool
     ensures answer { λ r. ⌜ r ≡ goesb a b ⌝ }
 {
     let mut s: usize = 0;
-    while s < 8 {
+    while s < SITES {
         let p = a.parts[s];
         let q = b.parts[s];
         let x = p.ticket;
@@ -64,7 +66,7 @@ pub fn has_pred(t: Table, r: Row) -> bool
     ensures answer { λ b. ⌜ b ≡ hasPred t r ⌝ }
 {
     let mut i: usize = 0;
-    while i < 32 {
+    while i < SLOTS {
         let q = t.rows[i];
         if points_to(q, r) {
             return true;
@@ -79,7 +81,7 @@ pub fn is_held_back(t: Table, r: Row) -> bool
     ensures answer { λ b. ⌜ b ≡ heldBack t r ⌝ }
 {
     let mut i: usize = 0;
-    while i < 32 {
+    while i < SLOTS {
         let a = t.rows[i];
         if is_older(a, r) {
             return true;

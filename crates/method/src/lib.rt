@@ -1,6 +1,11 @@
 // The records of the method: a table of transactions, and what a call answers. What each call does is defined in specs/.
 // RULES, The table. No function stands here: the fields are open, so that each group of calls can be a crate of its own;
 // crate `table` shuts them.
+// How many transactions a table holds, and how many sites it can have. RULES, Limits.
+pub const SLOTS: usize = 32;
+
+pub const SITES: usize = 8;
+
 // A number is counted by the table, a ticket by its site: the two are never mixed up.
 pub struct Number(pub u32);
 
@@ -43,15 +48,15 @@ pub struct Row {
     pub number: Number,
     pub sites: u8,
     pub last: Number,
-    pub parts: [Part; 8],
+    pub parts: [Part; SITES],
 }
 
 // `sites` is 0 in a closed table. `last` is the last number begun, `high` the highest committed ticket of each site.
 pub struct Table {
     pub sites: u8,
     pub last: Number,
-    pub high: [Ticket; 8],
-    pub rows: [Row; 32],
+    pub high: [Ticket; SITES],
+    pub rows: [Row; SLOTS],
 }
 
 // What a call answers: each refusal by its number in RULES, Refusals.

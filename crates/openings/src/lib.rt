@@ -9,6 +9,8 @@ ghost use Rattle.method.specs.Effects.{padded as paddedTickets, opened as opene
 use method::Answer;
 use method::Answered;
 use method::Number;
+use method::SITES;
+use method::SLOTS;
 use method::Table;
 use method::Ticket;
 
@@ -17,8 +19,8 @@ pub fn closed() -> Table
     ensures answer { λ r. ⌜ r ≡ closedTable ⌝ }
 {
     let free = records::free_row();
-    let high = [Ticket(0); 8];
-    let rows = [free; 32];
+    let high = [Ticket(0); SITES];
+    let rows = [free; SLOTS];
     Table {
         sites: 0,
         last: Number(0),
@@ -34,18 +36,18 @@ fn is_bad_opening(first: Number, floors: &[u32]) -> bool
     if floors.len() == 0 {
         return true;
     }
-    if 8 < floors.len() {
+    if SITES < floors.len() {
         return true;
     }
     first.0 == 0
 }
 
 // The floors, and zeros for the sites that the table lacks.
-fn padded(floors: &[u32]) -> [Ticket; 8]
+fn padded(floors: &[u32]) -> [Ticket; SITES]
     requires { ⌜ length (now floors) ≤ 8 ⌝ }
     ensures answer { λ r. ⌜ r ≡ paddedTickets 8 (now (floors .entry)) ⌝ }
 {
-    let mut high = [Ticket(0); 8];
+    let mut high = [Ticket(0); SITES];
     let mut i: usize = 0;
     while i < floors.len() {
         let f = Ticket(floors[i]);
@@ -61,7 +63,7 @@ fn opened(first: Number, floors: &[u32]) -> Answered
 {
     let high = padded(floors);
     let free = records::free_row();
-    let rows = [free; 32];
+    let rows = [free; SLOTS];
     let sites = floors.len() as u8;
     let last = Number(first.0 - 1);
     Answered {

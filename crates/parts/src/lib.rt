@@ -11,6 +11,7 @@ ghost use Rattle.method.specs.Conditions.{notPrepared};
 ghost use Rattle.method.specs.Effects.{raised as raisedTickets};
 ghost use Rattle.parts.specs.Counted.{counted};
 use method::Row;
+use method::SITES;
 use method::Stage;
 use method::Ticket;
 
@@ -60,7 +61,7 @@ fn higher(a: Ticket, b: Ticket) -> Ticket
 }
 
 // The highest tickets, raised at the row's sites to its own.
-pub fn raised(high: [Ticket; 8], row: Row) -> [Ticket; 8]
+pub fn raised(high: [Ticket; SITES], row: Row) -> [Ticket; SITES]
     ensures answer { λ r. ⌜ r ≡ raisedTickets row (sitesOf (row .sites)) high ⌝ }
 {
     let mut tops = high;

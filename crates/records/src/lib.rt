@@ -7,6 +7,8 @@ use method::Answered;
 use method::Number;
 use method::Part;
 use method::Row;
+use method::SITES;
+use method::SLOTS;
 use method::Stage;
 use method::State;
 use method::Table;
@@ -51,7 +53,7 @@ pub fn free_row() -> Row
         base: Ticket(0),
         ticket: Ticket(0),
     };
-    let parts = [p; 8];
+    let parts = [p; SITES];
     Row {
         state: State::Free,
         number: Number(0),
@@ -76,7 +78,7 @@ pub fn without(t: Table, slot: usize) -> Answered
     ensures answer { λ r. ⌜ r ≡ answered (withRow t slot freeRow) Answer.Done ⌝ }
 {
     let mut u = t;
-    if 32 <= slot {
+    if SLOTS <= slot {
         return Answered {
             table: u,
             answer: Answer::Done,

@@ -4,6 +4,8 @@ ghost use Rattle.method.specs.Records.{partAt};
 ghost use Rattle.method.specs.Conditions.{holdsOther, taken};
 use method::Number;
 use method::Row;
+use method::SITES;
+use method::SLOTS;
 use method::Table;
 use method::Ticket;
 
@@ -11,7 +13,7 @@ use method::Ticket;
 fn ticket_at(row: Row, s: usize) -> Ticket
     ensures answer { λ k. ⌜ k ≡ partAt row s .ticket ⌝ }
 {
-    if 8 <= s {
+    if SITES <= s {
         return Ticket(0);
     }
     let p = row.parts[s];
@@ -38,7 +40,7 @@ pub fn is_taken(t: Table, n: Number, s: usize, k: Ticket) -> bool
     ensures answer { λ b. ⌜ b ≡ taken t (n .0) s (k .0) ⌝ }
 {
     let mut i: usize = 0;
-    while i < 32 {
+    while i < SLOTS {
         let r = t.rows[i];
         if holds_other(r, n, s, k) {
             return true;

@@ -5,6 +5,7 @@ ghost use Rattle.slots.specs.Gate.{gateOf};
 ghost use Rattle.slots.specs.Suiting.{suiting};
 use method::Number;
 use method::Row;
+use method::SLOTS;
 use method::Table;
 
 fn has_number(r: Row, n: Number) -> bool
@@ -35,14 +36,14 @@ fn first(t: Table, free: bool, n: Number) -> usize
     ensures answer { λ r. ⌜ r ≡ firstAt (suiting free (n .0)) (t .rows) ⌝ }
 {
     let mut i: usize = 0;
-    while i < 32 {
+    while i < SLOTS {
         let row = t.rows[i];
         if suits(row, free, n) {
             return i;
         }
         i += 1;
     }
-    32
+    SLOTS
 }
 
 // The slot of a number, or the refusal of every call that names a number which the table does not know.
@@ -58,7 +59,7 @@ pub fn enter(t: Table, n: Number) -> Gate
         return Gate::Refused(1);
     }
     let slot = first(t, false, n);
-    if slot == 32 {
+    if slot == SLOTS {
         return Gate::Refused(2);
     }
     Gate::At(slot)
