@@ -29,12 +29,20 @@ class Reply:
     line: Optional[str]
 
 
+def service():
+    """What to talk to: the socket of a daemon, if OTM_SERVICE names one, or the program."""
+    named = os.environ.get("OTM_SERVICE", "")
+    return named if named and Path(named).is_socket() else program()
+
+
 def program():
-    """The service: the one that OTM_SERVICE names, or the one built in this project."""
+    """The service's program: the one that OTM_SERVICE names, or the one built in this project."""
     named = os.environ.get("OTM_SERVICE")
     path = Path(named) if named else ROOT / "target" / "bin" / "service"
     if path.is_file() and os.access(path, os.X_OK):
         return str(path.resolve())
+    if named and path.is_socket():
+        raise NoService(f"OTM_SERVICE names the socket '{named}', and a program is needed here.")
     if named:
         raise NoService(f"OTM_SERVICE names '{named}', and there is no such program.")
     raise NoService("The service is not built: run 'rt check service' in the project's folder, or let OTM_SERVICE name one.")
@@ -172,4 +180,4 @@ def plain(call, line, why=""):
     )
 
 
-__all__ = ["Coordinator", "NoService", "Reply", "ServiceEnded", "answers", "kept", "plain", "play", "program", "understand"]
+__all__ = ["Coordinator", "NoService", "Reply", "ServiceEnded", "answers", "kept", "plain", "play", "program", "service", "understand"]

@@ -1,8 +1,8 @@
-"""The coordinator from Python: keeps a service process, sends calls, gives answers as values and refusals as exceptions.
+"""The coordinator from Python: a service process of its own or a daemon, answers as values, refusals as exceptions.
 
     from delphrimock import Coordinator, Refused
 
-    with Coordinator("target/bin/service") as c:
+    with Coordinator("target/bin/service") as c:     # or a socket's path, or ("localhost", 4711)
         c.open(first=1, floors=[0, 0])
         n = c.begin([0, 1])
         c.ticket(n, site=0, ticket=1)
@@ -13,8 +13,12 @@ One file, standard library only. The rules are docs/RULES.md; sections are cited
 """
 
 import os
+import select
+import socket
+import stat
 import subprocess
 import threading
+import time
 from dataclasses import dataclass
 
 LARGEST = 4_294_967_295  # of a number, a ticket and a floor
@@ -44,7 +48,9 @@ class Call:
         if self.name == "open":
             return kind + _four(self.number) + b"".join(map(_four, self.numbers))
         if self.name == "begin":
-            return kind + bytes([sum(1 << _site(s, 7) for s in set(self.sites))])
+            if len({_site(s, 7) for s in self.sites}) < len(self.sites):
+                raise ValueError("a site is listed twice")
+            return kind + bytes([sum(1 << s for s in self.sites)])
         if self.name == "ticket":
             return kind + _four(self.number) + bytes([_site(self.site, 255)]) + _four(self.ticket)
         if self.name == "prepared":
@@ -63,16 +69,28 @@ class Call:
         return b"\x01" + len(body).to_bytes(2, "big") + body
 
 
+def _whole(value, what, most):
+    # True is an int to Python, and would be sent as a 1.
+    if isinstance(value, bool) or not isinstance(value, int):
+        raise ValueError(f"{what}{value!r} is not a whole number")
+    if not 0 <= value <= most:
+        raise ValueError(f"{what}{value} is not between 0 and {most}")
+    return value
+
+
 def _four(value):
-    if not 0 <= value <= LARGEST:
-        raise ValueError(f"{value} is not between 0 and 4294967295")
-    return value.to_bytes(4, "big")
+    return _whole(value, "", LARGEST).to_bytes(4, "big")
 
 
 def _site(value, most):
-    if not 0 <= value <= most:
-        raise ValueError(f"site {value} is not between 0 and {most}")
-    return value
+    return _whole(value, "site ", most)
+
+
+def _list(values, what):
+    try:
+        return tuple(values)
+    except TypeError:
+        raise ValueError(f"{values!r} is no list of {what}") from None
 
 
 def read_body(body):
@@ -239,24 +257,229 @@ class Refused(Exception):
 
 
 class ServiceEnded(Exception):
-    """The service is not there any more, or gave something that is no answer to the call."""
+    """The service is not there any more, or gave something that is no answer to the call. Whether the call was done is not known."""
 
 
-# ---- a service process
+class TimedOut(ServiceEnded, TimeoutError):
+    """No answer came in time. Whether the call was done, or still will be, is not known."""
+
+
+# ---- ways to the service
+#
+# A call may be broken off anywhere: by its timeout, or by a signal whose handler raises. Its answer may then still be on its way, and
+# must not be taken for the next call's. Each way says how it gets into step again before the next call.
+
+EMPTY = b"\x01\x00\x00"  # a message whose answer is always 'refused 10', which no call gets
+SOUND, DOUBT, MARKED, BROKEN, ENDED = range(5)
+
+
+def _left(until):
+    return None if until is None else max(0.0, until - time.monotonic())
+
+
+class _Pipe:
+    """A service process of one's own. In step again: the empty message is sent, and every line up to its answer is skipped."""
+
+    def __init__(self, command):
+        # A session of its own, so that a Ctrl-C meant for the planner does not end the table.
+        self.process = subprocess.Popen(command, stdin=subprocess.PIPE, stdout=subprocess.PIPE, bufsize=0, start_new_session=True)
+        self._held, self._state = b"", SOUND
+        self._readable = select.poll()
+        self._readable.register(self.process.stdout, select.POLLIN)
+
+    def step(self, until):
+        if self._state == SOUND:
+            return
+        if self._state == ENDED:
+            raise ServiceEnded("the service has ended")
+        if self._state == BROKEN:
+            raise ServiceEnded("the connection is broken: a call was cut off where nothing tells how far it came")
+        state, self._state = self._state, BROKEN  # whoever breaks this off, too, leaves it broken
+        if state == DOUBT:
+            self._held = b""
+            self._write(EMPTY)
+        try:
+            while self._line(until) != "refused 10":
+                pass
+        except TimedOut:
+            self._state = MARKED
+            raise
+        self._state = SOUND
+
+    def ask(self, message, until):
+        # Writes this short are all or nothing (POSIX, PIPE_BUF), so what may be on its way is a whole answer. Bytes that are no call
+        # may be a part of a message, or be answered like the mark.
+        self._state = DOUBT if _is_call(message) else BROKEN
+        self._write(message)
+        line = self._line(until)
+        self._state = SOUND
+        return line
+
+    def finish(self, rest):
+        try:
+            self._write(rest)
+        except ServiceEnded:
+            pass
+        self._end_input()
+        while True:
+            try:
+                yield self._line(None)
+            except ServiceEnded:
+                return
+
+    def close(self):
+        self._end_input()
+        status = self.process.wait()
+        self.process.stdout.close()
+        return status
+
+    def _end_input(self):
+        try:
+            self.process.stdin.close()
+        except OSError:
+            pass
+
+    def _write(self, data):
+        try:
+            self.process.stdin.write(data)
+        except (OSError, ValueError) as e:
+            self._state = ENDED
+            raise ServiceEnded("the service has ended") from e
+
+    def _line(self, until):
+        while b"\n" not in self._held:
+            if until is not None and not self._readable.poll(1000 * _left(until)):
+                raise TimedOut("the service gave no answer in time")
+            try:
+                got = self.process.stdout.read(65536)
+            except (OSError, ValueError):
+                got = b""
+            if not got:
+                self._state = ENDED
+                raise ServiceEnded("the service has ended")
+            self._held += got
+        line, self._held = self._held.split(b"\n", 1)
+        return line.decode("ascii", "replace")
+
+
+class _Socket:
+    """A connection to a daemon, which has the table. In step again: a call that is broken off takes its connection with it, and
+    the next call connects anew."""
+
+    process = None
+
+    def __init__(self, address, until):
+        self._address, self._socket, self._closed = address, None, False
+        self.step(until)
+
+    def step(self, until):
+        if self._closed:
+            raise ServiceEnded("the connection was closed")
+        if self._socket:
+            return
+        try:
+            if isinstance(self._address, tuple):
+                self._socket = socket.create_connection(self._address, _left(until))
+                self._socket.setsockopt(socket.IPPROTO_TCP, socket.TCP_NODELAY, 1)
+            else:
+                self._socket = self._local(until)
+        except OSError as e:
+            raise ServiceEnded(f"the daemon at {self._address} cannot be reached: {e}") from e
+
+    def _local(self, until):
+        s = socket.socket(socket.AF_UNIX)
+        while True:
+            s.settimeout(_left(until))
+            try:
+                s.connect(self._address)
+                return s
+            except BlockingIOError:  # more are connecting at the moment than the system lines up
+                if until is not None and _left(until) == 0:
+                    raise
+                time.sleep(0.001)
+
+    def ask(self, message, until):
+        s, self._socket = self._socket, None
+        try:
+            s.settimeout(_left(until))
+            s.sendall(message)
+            got = b""
+            while not got.endswith(b"\n"):
+                s.settimeout(_left(until))
+                more = s.recv(65536)
+                if not more:
+                    raise ServiceEnded("the daemon has closed the connection")
+                got += more
+        except socket.timeout as e:
+            s.close()
+            raise TimedOut("the daemon gave no answer in time") from e
+        except OSError as e:
+            s.close()
+            raise ServiceEnded(f"the connection to the daemon is gone: {e}") from e
+        except BaseException:
+            s.close()
+            raise
+        if got == b"refused 11\n":  # the last line of a connection
+            s.close()
+        else:
+            self._socket = s
+        return got[:-1].decode("ascii", "replace")
+
+    def finish(self, rest):
+        got = b""
+        try:
+            self._socket.settimeout(None)
+            self._socket.sendall(rest)
+            self._socket.shutdown(socket.SHUT_WR)
+            while more := self._socket.recv(65536):
+                got += more
+        except OSError:
+            pass
+        self.close()
+        return got.decode("ascii", "replace").splitlines()
+
+    def close(self):
+        self._closed = True
+        if self._socket:
+            self._socket.close()
+            self._socket = None
+
+
+def _is_call(message):
+    return len(message) >= 3 and message[0] == 1 and len(message) == 3 + int.from_bytes(message[1:3], "big") and read_body(message[3:]) is not None
+
+
+def _is_socket(path):
+    try:
+        return stat.S_ISSOCK(os.stat(path).st_mode)
+    except OSError:
+        return False
+
+
+# ---- the calls
 
 
 class Coordinator:
-    """A service process with its one table. Closing it, or leaving its `with`, ends the process and the table with it.
+    """A table, and a way to it. `service` is one of
 
-    Calls may come from several threads; each waits for its own answer.
+      a program, or a list of a program and its words: a service process of one's own. Closing it, or leaving its `with`, ends the
+          process and the table with it;
+      the path of a daemon's socket, or a pair of host and port: one connection to the table that the daemon has.
+
+    With a timeout, in seconds, a call that has no answer by then raises TimedOut. After that, or after a signal in the middle of a
+    call, the next call is still given its own answer. Calls may come from several threads; each waits for its own answer.
     """
 
-    def __init__(self, service="target/bin/service"):
-        command = [service] if isinstance(service, (str, os.PathLike)) else list(service)
-        self._lock = threading.Lock()
-        self._process = subprocess.Popen(command, stdin=subprocess.PIPE, stdout=subprocess.PIPE, bufsize=0)
-        self._lines = self._process.stdout
-        self._held = b""
+    def __init__(self, service="target/bin/service", timeout=None):
+        self._lock, self._timeout = threading.Lock(), timeout
+        if isinstance(service, tuple) and len(service) == 2 and isinstance(service[1], int):
+            self._link = _Socket(service, self._until())
+        elif not isinstance(service, (str, os.PathLike)):
+            self._link = _Pipe(list(service))
+        elif _is_socket(service):
+            self._link = _Socket(os.fspath(service), self._until())
+        else:
+            self._link = _Pipe([service])
 
     def __enter__(self):
         return self
@@ -265,26 +488,22 @@ class Coordinator:
         self.close()
 
     def close(self):
-        """Ends the input, waits for the service's end and gives its exit status."""
+        """Ends the connection. A process of one's own is waited for, and its exit status is given."""
         with self._lock:
-            if not self._process.stdin.closed:
-                try:
-                    self._process.stdin.close()
-                except OSError:
-                    pass
-            status = self._process.wait()
-            self._lines.close()
-            return status
+            return self._link.close()
+
+    def _until(self):
+        return None if self._timeout is None else time.monotonic() + self._timeout
 
     # The calls, as RULES, Calls has them.
 
     def open(self, first, floors):
         """Opens the table: the first number to give out, and a floor for each site."""
-        self._done(Call("open", number=first, numbers=tuple(floors)))
+        self._done(Call("open", number=first, numbers=_list(floors, "floors")))
 
     def begin(self, sites):
         """Begins a transaction at these sites, and gives its number."""
-        return self._number(Call("begin", sites=tuple(sorted(set(sites)))), "begin")
+        return self._number(Call("begin", sites=_list(sites, "sites")), "begin")
 
     def ticket(self, number, site, ticket):
         """The site gave the transaction this ticket."""
@@ -323,7 +542,7 @@ class Coordinator:
 
     def propose(self, numbers):
         """Whether the numbers are an order of the kept transactions."""
-        line = self.ask(Call("propose", numbers=tuple(numbers)))
+        line = self.ask(Call("propose", numbers=_list(numbers, "numbers")))
         if line not in ("good", "bad"):
             raise ServiceEnded(f"'{line}' is no answer to propose")
         return line == "good"
@@ -338,35 +557,14 @@ class Coordinator:
     def send(self, message):
         """Sends the bytes of one message as they are, and gives the line it gets, refusals too."""
         with self._lock:
-            try:
-                self._process.stdin.write(message)
-                return self._line()
-            except (OSError, ValueError) as e:
-                raise ServiceEnded("the service has ended") from e
+            until = self._until()
+            self._link.step(until)
+            return self._link.ask(message, until)
 
     def finish(self, rest=b""):
         """Sends the bytes of a last piece, ends the input, and gives the lines that are still to come."""
         with self._lock:
-            try:
-                self._process.stdin.write(rest)
-                self._process.stdin.close()
-            except OSError:
-                pass
-            lines = []
-            while True:
-                try:
-                    lines.append(self._line())
-                except ServiceEnded:
-                    return lines
-
-    def _line(self):
-        while b"\n" not in self._held:
-            got = self._lines.read(65536)
-            if not got:
-                raise ServiceEnded("the service has ended")
-            self._held += got
-        line, self._held = self._held.split(b"\n", 1)
-        return line.decode("ascii", "replace")
+            return list(self._link.finish(rest))
 
     def _done(self, call):
         line = self.ask(call)

@@ -88,7 +88,7 @@ def client():
         hold("an answer that is none raises", False)
     except ServiceEnded as e:
         hold("an answer that is none raises", "'begin 1' is no answer to sweep" in str(e), e)
-    wrong._process.kill()
+    wrong._link.process.kill()
     wrong.close()
 
 

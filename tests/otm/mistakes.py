@@ -81,7 +81,7 @@ def mistakes_in_commands():
 def help_reads_well():
     texts = [otm(*words) for words in ([], ["--help"], ["-h"], ["help"], ["run", "--help"])]
     hold("five ways to the same help", len({t.out for t in texts}) == 1 and all(t.status == 0 for t in texts))
-    for command in ("run", "talk", "graph", "encode", "decode", "help script", "help refusals"):
+    for command in ("run", "talk", "graph", "encode", "decode", "serve", "journal", "help script", "help refusals"):
         hold(f"help names otm {command}", f"otm {command}" in texts[0].out)
     hold("no line of it is over 120 wide", max(map(len, texts[0].out.splitlines())) <= 120)
     first = texts[0].out.split("A first script:")[1].split("The service is")[0]

@@ -40,7 +40,7 @@ def planner():
 
 @test
 def nothing_but_the_standard_library():
-    known = sys.stdlib_module_names | {"otm_script", "otm_play", "otm_graph", "delphrimock"}
+    known = sys.stdlib_module_names | {path.stem for path in ROOT.glob("tools/*.py")} | {"delphrimock"}
     for path in [OTM, *ROOT.glob("tools/*.py"), *ROOT.glob("clients/python/*.py"), *ROOT.glob("examples/*.py")]:
         used = {line.split()[1].split(".")[0] for line in path.read_text().splitlines() if line.startswith(("import ", "from "))}
         hold(f"{path.name} imports nothing else", used <= known, used - known)

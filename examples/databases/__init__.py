@@ -1,0 +1,1 @@
+"""Two lifeboat stations in real databases, and the coordinator between them. docs/DATABASES.md says what they show."""
