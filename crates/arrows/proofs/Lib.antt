@@ -1,1 +1,3 @@
 pub mod PastLaws
+pub mod PredsLaws
+pub mod PlacedLaws

@@ -1,9 +1,11 @@
-// The arrow between two rows of a flat ticket table, nine entries a row. RULES, Orders.
+// The arrows between the rows of a flat ticket table, nine entries a row. RULES, Orders.
 ghost use mathlib.Core.Path.{_≡_};
 ghost use Prim.Native.Nat.{_<_, _≤_, _/_};
 ghost use lib.ListN.{length};
 ghost use Rattle.orders.specs.Arrow.{ticketAt};
 ghost use Rattle.orders.specs.Entries.{entryAt, entryArrowb};
+
+pub mod preds;
 
 // The ticket of row i at a site; where the list ends before it there is none.
 fn ticket_of(rows: &[u32], i: usize, s: usize) -> u32

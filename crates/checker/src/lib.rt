@@ -6,6 +6,8 @@ ghost use Rattle.orders.specs.Order.{checkResult};
 use good::is_good;
 use orders::CheckAnswer;
 use places::may_stand;
+use places::row_of;
+use words::with;
 
 mod places;
 
@@ -19,11 +21,14 @@ pub fn check(rows: &[u32], order: &[u32]) -> CheckAnswer
     if order.len() != rows.len() / 9 {
         return CheckAnswer::No;
     }
+    let mut placed: u32 = 0;
     let mut p: usize = 0;
     while p < order.len() {
-        if !may_stand(rows, &order[..p], order[p]) {
+        let i = row_of(rows, order[p]);
+        if !may_stand(rows, placed, i) {
             return CheckAnswer::No;
         }
+        placed = with(placed, i);
         p += 1;
     }
     CheckAnswer::Yes

@@ -1,46 +1,50 @@
-// May a number stand at a place of the order, behind those that stand before? RULES, Orders.
+// May a number stand at a place of the order, behind those that stand before? What stands before is a word: bit i says that row i
+// does. RULES, Orders.
 ghost use mathlib.Core.Path.{_≡_};
-ghost use lib.Dec.{eqb};
-ghost use Rattle.graph.specs.Lists.{anyOf};
-ghost use Rattle.graph.specs.Check.{unready, mayStand};
-ghost use Rattle.orders.specs.Entries.{numberOf, entryArrowb, entryAt, entriesIn};
-ghost use Rattle.checker.specs.Places.{holdsUp, fitting};
+ghost use Prim.Native.Nat.{_≤_, _<_, _/_};
+ghost use lib.ListN.{length};
+ghost use Rattle.words.specs.Below.{anyBelow};
+ghost use Rattle.arrows.specs.Placed.{waits};
+ghost use Rattle.checker.specs.Places.{RowOf, rowStands};
 use arrows::goes_before;
 use good::entries::number_at;
+use words::has;
 
-fn is_named(before: &[u32], n: u32) -> bool
-    ensures answer { λ r. ⌜ r ≡ anyOf (eqb n) (now (before .entry)) ⌝ }
+// Which row has the number? Past the rows where none has.
+pub(crate) fn row_of(rows: &[u32], n: u32) -> usize
+    ensures answer { λ r. ⌜ RowOf (now (rows .entry)) n r ⌝ }
 {
-    let mut k: usize = 0;
-    while k < before.len() {
-        if n == before[k] {
-            return true;
+    let m = rows.len() / 9;
+    let mut i: usize = 0;
+    while i < m {
+        if number_at(rows, i) == n {
+            return i;
         }
-        k += 1;
+        i += 1;
     }
-    false
+    m
 }
 
 // Has row j an arrow to row i, without standing before?
-fn holds_up(rows: &[u32], before: &[u32], j: usize, i: usize) -> bool
-    ensures answer { λ r. ⌜ r ≡ holdsUp (now (before .entry)) (entryAt (now (rows .entry)) i) (entryAt (now (rows .entry)) j) ⌝ }
+fn holds_up(rows: &[u32], placed: u32, j: usize, i: usize) -> bool
+    requires { ⌜ j < 32 ⌝ }
+    ensures answer { λ r. ⌜ r ≡ waits (now (rows .entry)) placed i j ⌝ }
 {
-    if goes_before(rows, j, i) {
-        let n = number_at(rows, j);
-        !is_named(before, n)
-    } else {
-        false
+    if has(placed, j) {
+        return false;
     }
+    goes_before(rows, j, i)
 }
 
 // Must row i still wait for a predecessor?
-fn is_unready(rows: &[u32], before: &[u32], i: usize) -> bool
-    ensures answer { λ r. ⌜ r ≡ unready entryArrowb numberOf (entriesIn (now (rows .entry))) (now (before .entry)) (entryAt (now (rows .entry)) i) ⌝ }
+fn is_unready(rows: &[u32], placed: u32, i: usize) -> bool
+    requires { ⌜ length (now rows) ≤ 288 ⌝ }
+    ensures answer { λ r. ⌜ r ≡ anyBelow (waits (now (rows .entry)) placed i) (length (now (rows .entry)) / 9) ⌝ }
 {
     let n = rows.len() / 9;
     let mut j: usize = 0;
     while j < n {
-        if holds_up(rows, before, j, i) {
+        if holds_up(rows, placed, j, i) {
             return true;
         }
         j += 1;
@@ -48,37 +52,16 @@ fn is_unready(rows: &[u32], before: &[u32], i: usize) -> bool
     false
 }
 
-// Has row i the number, and need it not wait?
-fn fits(rows: &[u32], before: &[u32], n: u32, i: usize) -> bool
-    ensures answer { λ r. ⌜ r ≡ fitting (entriesIn (now (rows .entry))) (now (before .entry)) n (entryAt (now (rows .entry)) i) ⌝ }
+// Is i a row that does not stand before, and do all its predecessors?
+pub(crate) fn may_stand(rows: &[u32], placed: u32, i: usize) -> bool
+    requires { ⌜ length (now rows) ≤ 288 ⌝ }
+    ensures answer { λ r. ⌜ r ≡ rowStands (now (rows .entry)) placed i ⌝ }
 {
-    if number_at(rows, i) == n {
-        !is_unready(rows, before, i)
-    } else {
-        false
-    }
-}
-
-fn has_fit(rows: &[u32], before: &[u32], n: u32) -> bool
-    ensures answer { λ r. ⌜ r ≡ anyOf (fitting (entriesIn (now (rows .entry))) (now (before .entry)) n) (entriesIn (now (rows .entry))) ⌝ }
-{
-    let m = rows.len() / 9;
-    let mut i: usize = 0;
-    while i < m {
-        if fits(rows, before, n, i) {
-            return true;
-        }
-        i += 1;
-    }
-    false
-}
-
-// Not named before, and the number of a row whose predecessors all stand before.
-pub(crate) fn may_stand(rows: &[u32], before: &[u32], n: u32) -> bool
-    ensures answer { λ r. ⌜ r ≡ mayStand entryArrowb numberOf (entriesIn (now (rows .entry))) (now (before .entry)) n ⌝ }
-{
-    if is_named(before, n) {
+    if rows.len() / 9 <= i {
         return false;
     }
-    has_fit(rows, before, n)
+    if has(placed, i) {
+        return false;
+    }
+    !is_unready(rows, placed, i)
 }

@@ -1,3 +1,4 @@
 pub mod DecimalLaws
 pub mod TextLaws
 pub mod WrittenLaws
+mod SpellingLaws

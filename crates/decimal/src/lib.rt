@@ -1,5 +1,5 @@
-// A number as decimal digits in a byte slice. Rests on `endian` and on specs/Decimal.antt, whose recursion the code follows: all
-// digits but the last, then the last; at most ten deep.
+// A number as decimal digits in a byte slice. Rests on `endian` and on specs/Decimal.antt. The digits are counted by the definition's
+// recursion, which the compiler makes a loop of, and then written from the last one on.
 ghost use mathlib.Core.Path.{_≡_};
 ghost use Prim.Native.Nat.{_+_, _≤_};
 ghost use lib.ListN.{length};
@@ -13,19 +13,18 @@ pub fn digit_count(x: u32) -> usize
     if x < 10 { 1 } else { digit_count(x / 10) + 1 }
 }
 
-// Writes the digits from the place on and answers where they end.
-fn spell(x: u32, out: &mut [u8], at: usize) -> usize
-    requires { ⌜ at + length (decimal x) ≤ length (now out) ⌝ }
-    ensures answer { λ r. ⌜ r ≡ at + length (decimal x) ⌝ }
+// Writes the n digits from the place on, the last one first.
+fn spell(x: u32, n: usize, out: &mut [u8], at: usize)
+    requires { ⌜ n ≡ length (decimal x) ⌝ }
+    requires { ⌜ at + n ≤ length (now out) ⌝ }
     ensures buffer { λ _. ⌜ now (out .exit) ≡ laid (now (out .entry)) at (decimal x) ⌝ }
 {
-    if 10 <= x {
-        let end = spell(x / 10, out, at);
-        out[end] = 48 + (x % 10) as u8;
-        end + 1
-    } else {
-        out[at] = 48 + x as u8;
-        at + 1
+    let mut left = x;
+    let mut k = n;
+    while 0 < k {
+        k -= 1;
+        out[at + k] = 48 + (left % 10) as u8;
+        left = left / 10;
     }
 }
 
@@ -42,6 +41,6 @@ pub fn put_decimal(x: u32, out: &mut [u8], at: usize) -> usize
     if out.len() - n < at {
         return 0;
     }
-    spell(x, out, at);
+    spell(x, n, out, at);
     n
 }

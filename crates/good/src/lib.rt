@@ -7,20 +7,20 @@ ghost use Rattle.orders.specs.Entries.{entryAt, entriesFrom};
 ghost use Rattle.orders.specs.Good.{clash, goodb};
 use entries::number_at;
 use entries::ticket_at;
+use entries::tickets_at;
 
 pub mod entries;
 
-// Have rows i and j the same number, or the same ticket at a site? All are compared, so that the loop has no branch.
-fn clashes(rows: &[u32], i: usize, j: usize) -> bool
-    requires { ⌜ (i < length (now rows) / 9) × (j < length (now rows) / 9) ⌝ }
-    ensures answer { λ r. ⌜ r ≡ clash (entryAt (now (rows .entry)) i) (entryAt (now (rows .entry)) j) ⌝ }
+// Has row j this number, or one of these tickets at its site? All are compared, so that the loop has no branch.
+fn clashes(rows: &[u32], number: u32, own: [u32; 8], j: usize) -> bool
+    requires { ⌜ j < length (now rows) / 9 ⌝ }
+    ensures answer { λ r. ⌜ r ≡ clash (record { number = number; tickets = own }) (entryAt (now (rows .entry)) j) ⌝ }
 {
-    let a = number_at(rows, i);
-    let b = number_at(rows, j);
-    let mut found = a == b;
+    let b = rows[9 * j];
+    let mut found = number == b;
     let mut s: usize = 0;
     while s < 8 {
-        let x = ticket_at(rows, i, s);
+        let x = own[s];
         let y = ticket_at(rows, j, s);
         found = found | ((0 < x) & (x == y));
         s += 1;
@@ -28,15 +28,17 @@ fn clashes(rows: &[u32], i: usize, j: usize) -> bool
     found
 }
 
-// Does row i clash with one that stands behind it?
+// Does row i clash with one that stands behind it? It is read once, and then held against each.
 fn clashes_behind(rows: &[u32], i: usize) -> bool
     requires { ⌜ i < length (now rows) / 9 ⌝ }
     ensures answer { λ r. ⌜ r ≡ anyOf (clash (entryAt (now (rows .entry)) i)) (entriesFrom (now (rows .entry)) (i + 1) (length (now (rows .entry)) / 9 - (i + 1))) ⌝ }
 {
     let n = rows.len() / 9;
+    let number = number_at(rows, i);
+    let own = tickets_at(rows, i);
     let mut j = i + 1;
     while j < n {
-        if clashes(rows, i, j) {
+        if clashes(rows, number, own, j) {
             return true;
         }
         j += 1;

@@ -2,7 +2,7 @@
 use mathlib.Core.Path.{_≡_, refl}
 use mathlib.Core.Bool.{Bool, true, false, cond, _&&_}
 use mathlib.Core.Option.{Option, none, some, Option·none-ne-some}
-use Prim.Native.Nat.{ℕ, zero, suc, _<_}
+use Prim.Native.Nat.{ℕ, zero, suc, _<_, _≤_}
 use native.Mathlib.Omega.{arith}
 
 module _ {A : Type 0} where
@@ -28,6 +28,10 @@ pub and-right : (a b : Bool) → a && b ≡ true → b ≡ true
 and-right true b e = e
 and-right false true e = refl
 and-right false false e = e
+
+-- a number that is at least m and is not m
+pub above : {m k : ℕ} → m ≤ k → (k ≡ m → ⊥) → suc m ≤ k
+above h e = omega arith
 
 -- a proof for each number below n
 abbrev Each : (ℕ → Type 0) → ℕ → Type 0

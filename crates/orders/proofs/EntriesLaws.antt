@@ -57,6 +57,10 @@ pub ticket-entryAt : (flat : List ℕ) (i s : ℕ) → s < 8 → ticketAt (entry
 unfolding entryAt
 ticket-entryAt flat i s h = rw (getD-take 8 (drop (9 * i + 1) flat) s 0 h, getD-drop (9 * i + 1) flat s 0)
 
+pub length-tickets : (flat : List ℕ) (i : ℕ) → i < length flat / 9 → length (entryAt flat i .tickets) ≡ 8
+unfolding entryAt
+length-tickets flat i h = simp (length-take, length-drop) (omega arith)
+
 -- past the list there are no tickets
 pub tickets-past : (flat : List ℕ) (i : ℕ) → length flat / 9 < i → entryAt flat i .tickets ≡ []
 unfolding entryAt

@@ -52,7 +52,7 @@ module _ (f : ℕ → ℕ → Bool) (left : (y : ℕ) → f 0 y ≡ false) (righ
       → anySite f (take (s + 1) xs) (take (s + 1) ys) ≡ anySite f (take s xs) (take s ys) || f (ticketAt xs s) (ticketAt ys s)
   any-site-more xs ys s = rw (add-one s) (one-more xs ys s)
 
-take-row : (flat : List ℕ) (i s : ℕ) → 8 ≤ s → take s (entryAt flat i .tickets) ≡ entryAt flat i .tickets
+pub take-row : (flat : List ℕ) (i s : ℕ) → 8 ≤ s → take s (entryAt flat i .tickets) ≡ entryAt flat i .tickets
 unfolding entryAt
 take-row flat i s h = take-all s (take 8 (drop (9 * i + 1) flat)) (simp length-take (omega arith))
 

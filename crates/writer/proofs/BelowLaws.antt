@@ -1,6 +1,6 @@
--- Searches among the places below a bound: whether one passes, and which has the smallest number. Assumes nothing.
+-- A search among the places below a bound for the one that has the smallest number. Assumes nothing.
 use mathlib.Core.Path.{_≡_, refl}
-use mathlib.Core.Bool.{Bool, true, false, cond, _&&_, _||_}
+use mathlib.Core.Bool.{Bool, true, false, cond, _&&_}
 use mathlib.Core.Logic.{inl, inr}
 use Prim.Native.Nat.{ℕ, zero, suc, _+_, _<_, _≤_}
 use native.Mathlib.Decide.{ℕ-discrete}
@@ -8,29 +8,11 @@ use native.Mathlib.Numerals.{add-one}
 use native.Mathlib.Omega.{arith}
 use lib.Dec.{ltb}
 use borrow.Author.Tests.{le-leb, lt-leb, ltb-true, ltb-false}
-use Rattle.graph.proofs.TestLaws.{or-of-left, or-of-right, true-not-false, false-of-not-true}
-use Rattle.writer.specs.Next.{anyBelow, Least, better, leastBelow}
+use Rattle.graph.proofs.TestLaws.{true-not-false}
+use Rattle.writer.specs.Next.{Least, better, leastBelow}
 
 below-suc : (P : ℕ → Type 0) (k : ℕ) → ((j : ℕ) → j < k → P j) → P k → (j : ℕ) → j < suc k → P j
 below-suc P k h p j l = elim (ℕ-discrete j k) [ yes e ↦ rw e p | no e ↦ h j (omega arith) ]
-
-module _ (f : ℕ → Bool) where
-  pub any-below-hit : (n i : ℕ) → i < n → f i ≡ true → anyBelow f n ≡ true
-  unfolding anyBelow
-  any-below-hit zero i h e = absurd (omega arith)
-  any-below-hit (suc n) i h e = go (any-below-hit n i) (ℕ-discrete i n)
-    where
-      go : (i < n → f i ≡ true → anyBelow f n ≡ true) → Dec (i ≡ n) → anyBelow f n || f n ≡ true
-      go r (yes p) = or-of-right (anyBelow f n) (rw p at e)
-      go r (no p) = or-of-left (f n) (r (omega arith) e)
-
-  pub any-below-none : (n : ℕ) → ((i : ℕ) → i < n → f i ≡ false) → anyBelow f n ≡ false
-  unfolding anyBelow
-  any-below-none zero h = refl
-  any-below-none (suc n) h = rw (any-below-none n (λ i l. h i (omega arith)), h n (omega arith))
-
-  pub false-of-none-below : (n : ℕ) → anyBelow f n ≡ false → (i : ℕ) → i < n → f i ≡ false
-  false-of-none-below n e i h = false-of-not-true (f i) (λ t. true-not-false (any-below-hit n i h t) e)
 
 module _ (may : ℕ → Bool) (num : ℕ → ℕ) (n : ℕ) where
   least-of-better : (b k : ℕ) → k < n → Least may num n k b → Least may num n (suc k) (better may num n b k)
@@ -59,3 +41,10 @@ module _ (may : ℕ → Bool) (num : ℕ → ℕ) (n : ℕ) where
   pub leastBelow-more : (k : ℕ) → better may num n (leastBelow may num n k) k ≡ leastBelow may num n (k + 1)
   unfolding leastBelow
   leastBelow-more k = rw (add-one k)
+
+  -- numbers that do not pass can be left out
+  pub leastBelow-skip : (i k : ℕ) → ((j : ℕ) → i ≤ j → j < i + k → may j ≡ false) → leastBelow may num n (i + k) ≡ leastBelow may num n i
+  leastBelow-skip i zero h = let e : i + 0 ≡ i = omega arith in rw e
+  leastBelow-skip i (suc k) h =
+      let e : i + suc k ≡ i + k + 1 = omega arith in
+      rw (e, ← leastBelow-more (i + k), h (i + k) (omega arith) (omega arith)) (leastBelow-skip i k (λ j l g. h j l (omega arith)))

@@ -1,14 +1,18 @@
 // The order itself, picked into an array: at each place the smallest number that may stand there. Rests on specs/Next.antt.
 ghost use mathlib.Core.Path.{_≡_};
-ghost use mathlib.Core.Bool.{_||_};
-ghost use Prim.Native.Nat.{_<_, _≤_, _/_};
-ghost use lib.Dec.{leb, ltb};
+ghost use mathlib.Core.Bool.{cond, _&&_, _||_};
+ghost use Prim.Native.Nat.{_≤_, _/_};
+ghost use lib.Bits.{bitAnd};
+ghost use lib.Dec.{eqb, leb, ltb};
 ghost use lib.ListN.{length};
+ghost use Rattle.words.specs.Word.{others};
 ghost use Rattle.orders.specs.Good.{GoodRows};
-ghost use Rattle.writer.specs.Next.{numberAt, waits, mayStand, better as betterOf, nextOf};
+ghost use Rattle.arrows.specs.Preds.{predsOf};
+ghost use Rattle.writer.specs.Next.{numberAt, nextOf};
 ghost use Rattle.writer.specs.Picks.{PickedOrder};
-use arrows::goes_before;
+use arrows::preds::predecessors;
 use good::entries::number_at;
+use words::with;
 
 // The first `count` of the numbers stand in their order.
 pub struct Picked {
@@ -16,34 +20,11 @@ pub struct Picked {
     pub numbers: [u32; 32],
 }
 
-// Is row i not placed yet, and does it go before row j?
-fn is_waited_for(rows: &[u32], placed: [bool; 32], i: usize, j: usize) -> bool
-    requires { ⌜ (i < length (now rows) / 9) × (length (now rows) ≤ 288) ⌝ }
-    ensures answer { λ r. ⌜ r ≡ waits (now (rows .entry)) placed j i ⌝ }
+// Have all predecessors been placed?
+fn is_ready(preds: u32, placed: u32) -> bool
+    ensures answer { λ r. ⌜ r ≡ eqb (bitAnd preds (others placed)) 0 ⌝ }
 {
-    if placed[i] {
-        return false;
-    }
-    goes_before(rows, i, j)
-}
-
-// May row j stand at the next place? Not if it is placed, nor if a row that is not goes before it.
-fn may_stand(rows: &[u32], placed: [bool; 32], j: usize) -> bool
-    requires { ⌜ (j < length (now rows) / 9) × (length (now rows) ≤ 288) ⌝ }
-    ensures answer { λ r. ⌜ r ≡ mayStand (now (rows .entry)) placed j ⌝ }
-{
-    if placed[j] {
-        return false;
-    }
-    let n = rows.len() / 9;
-    let mut i: usize = 0;
-    while i < n {
-        if is_waited_for(rows, placed, i, j) {
-            return false;
-        }
-        i += 1;
-    }
-    true
+    preds & !placed == 0
 }
 
 // Has row j a smaller number than the best so far? Past the rows there is no best.
@@ -56,27 +37,34 @@ fn is_lower(rows: &[u32], best: usize, j: usize) -> bool
     number_at(rows, j) < number_at(rows, best)
 }
 
-fn better(rows: &[u32], placed: [bool; 32], best: usize, j: usize) -> usize
-    requires { ⌜ (j < length (now rows) / 9) × (length (now rows) ≤ 288) ⌝ }
-    ensures answer { λ r. ⌜ r ≡ betterOf (mayStand (now (rows .entry)) placed) (numberAt (now (rows .entry))) (length (now (rows .entry)) / 9) best j ⌝ }
+fn better(rows: &[u32], ready: bool, best: usize, j: usize) -> usize
+    ensures answer { λ r. ⌜ r ≡ cond (ready && (leb (length (now (rows .entry)) / 9) best || ltb (numberAt (now (rows .entry)) j) (numberAt (now (rows .entry)) best))) j best ⌝ }
 {
-    if !may_stand(rows, placed, j) {
+    if !ready {
         return best;
     }
     if is_lower(rows, best, j) { j } else { best }
 }
 
-// The row with the smallest number that may stand at the next place; past the rows where none may.
-fn next_row(rows: &[u32], placed: [bool; 32]) -> usize
-    requires { ⌜ length (now rows) ≤ 288 ⌝ }
+// The row with the smallest number that may stand at the next place; past the rows where none may. Only rows that are not placed are
+// looked at: `rest` is what `!placed` has from bit i on.
+fn next_row(rows: &[u32], preds: &[u32; 32], placed: u32) -> usize
+    requires { ⌜ (length (now rows) ≤ 288) × (now preds ≡ predsOf (now rows)) ⌝ }
     ensures answer { λ r. ⌜ r ≡ nextOf (now (rows .entry)) placed ⌝ }
 {
     let n = rows.len() / 9;
     let mut best = n;
-    let mut j: usize = 0;
-    while j < n {
-        best = better(rows, placed, best, j);
-        j += 1;
+    let mut rest = !placed;
+    let mut i: usize = 0;
+    while rest != 0 {
+        let t = u32::trailing_zeros(rest);
+        let j = i + t as usize;
+        if n <= j {
+            return best;
+        }
+        best = better(rows, is_ready(preds[j], placed), best, j);
+        rest = rest >> t >> 1;
+        i = j + 1;
     }
     best
 }
@@ -87,17 +75,18 @@ pub(crate) fn pick(rows: &[u32]) -> Picked
     ensures answer { λ r. ⌜ PickedOrder (now (rows .entry)) (r .numbers) (r .count) ⌝ }
 {
     let n = rows.len() / 9;
+    let preds = predecessors(rows);
     let mut numbers = [0; 32];
-    let mut placed = [false; 32];
+    let mut placed: u32 = 0;
     let mut k: usize = 0;
     while k < n {
-        let j = next_row(rows, placed);
+        let j = next_row(rows, &preds, placed);
         if n <= j {
             return Picked { count: k, numbers };
         }
         let x = number_at(rows, j);
         numbers[k] = x;
-        placed[j] = true;
+        placed = with(placed, j);
         k += 1;
     }
     Picked { count: k, numbers }

@@ -29,7 +29,7 @@ spell-requires : tie.Need-spell-requires
 spell-requires c κs = omega arith
 
 same-length : tie.Need-same-length
-same-length c = c .before .before .spell .kept .1 .0
+same-length c = c .before .before .spell .kept .1 .1 .0
 
 returns-3 : tie.Need-returns-3
 returns-3 c =
@@ -37,7 +37,7 @@ returns-3 c =
     let d = p .before .before .before .before in
     let a = d .before .before .args in
     let r = written-of-room (now (a .out)) (decimal (a .x)) (a .at) (omega (arith, d .digit-count .ensures)) in
-    (d .digit-count .ensures ∙ r .0, p .spell .ensures .1 ∙ r .1)
+    (d .digit-count .ensures ∙ r .0, p .spell .ensures ∙ r .1)
 
 pub put-decimal-spec : {M : Type 1} → statement M
 put-decimal-spec =

@@ -7,11 +7,8 @@ use Rattle.lines.proofs.write_line.Tie as tie
 enum-told : tie.Need-enum-told
 enum-told c = search needs
 
-slice-aggregate-put-word : tie.Need-slice-aggregate-put-word
-slice-aggregate-put-word c = refl
-
-put-word-requires : tie.Need-put-word-requires
-put-word-requires c κs = tt
+put-ok-requires : tie.Need-put-ok-requires
+put-ok-requires c κs = tt
 
 enum-known-words : tie.Need-enum-known-words
 enum-known-words c = search needs
@@ -52,20 +49,20 @@ put-numbered-requires-4 c κs = tt
 enum-told-2 : tie.Need-enum-told-2
 enum-told-2 c = search needs
 
+slice-aggregate-put-word : tie.Need-slice-aggregate-put-word
+slice-aggregate-put-word c = refl
+
+put-word-requires : tie.Need-put-word-requires
+put-word-requires c κs = tt
+
+enum-told-3 : tie.Need-enum-told-3
+enum-told-3 c = search needs
+
 slice-aggregate-put-word-2 : tie.Need-slice-aggregate-put-word-2
 slice-aggregate-put-word-2 c = refl
 
 put-word-requires-2 : tie.Need-put-word-requires-2
 put-word-requires-2 c κs = tt
-
-enum-told-3 : tie.Need-enum-told-3
-enum-told-3 c = search needs
-
-slice-aggregate-put-word-3 : tie.Need-slice-aggregate-put-word-3
-slice-aggregate-put-word-3 c = refl
-
-put-word-requires-3 : tie.Need-put-word-requires-3
-put-word-requires-3 c κs = tt
 
 enum-known-words-5 : tie.Need-enum-known-words-5
 enum-known-words-5 c = search needs
@@ -77,11 +74,11 @@ put-numbered-requires-5 : tie.Need-put-numbered-requires-5
 put-numbered-requires-5 c κs = tt
 
 same-length : tie.Need-same-length
-same-length c = c .before .before .put-word .kept .1 .0
+same-length c = c .before .before .put-ok .kept .0
 
 returns : tie.Need-returns
 returns c =
-    rw (c .before .before .before .before .before .enum-told .given .1) (c .before .before .put-word .ensures)
+    rw (c .before .before .before .before .enum-told .given .1) (c .before .before .put-ok .ensures)
 
 same-length-2 : tie.Need-same-length-2
 same-length-2 c = c .before .before .put-numbered .kept .1 .1 .0
@@ -109,16 +106,16 @@ returns-5 : tie.Need-returns-5
 returns-5 c = rw (c .before .before .before .before .before .before .words4 .given .1) (c .before .before .put-numbered4 .ensures)
 
 same-length-6 : tie.Need-same-length-6
-same-length-6 c = c .before .before .put-word2 .kept .1 .0
+same-length-6 c = c .before .before .put-word .kept .1 .0
 
 returns-6 : tie.Need-returns-6
-returns-6 c = rw (c .before .before .before .before .before .enum-told2 .given .1) (c .before .before .put-word2 .ensures)
+returns-6 c = rw (c .before .before .before .before .before .enum-told2 .given .1) (c .before .before .put-word .ensures)
 
 same-length-7 : tie.Need-same-length-7
-same-length-7 c = c .before .before .put-word3 .kept .1 .0
+same-length-7 c = c .before .before .put-word2 .kept .1 .0
 
 returns-7 : tie.Need-returns-7
-returns-7 c = rw (c .before .before .before .before .before .enum-told3 .given .1) (c .before .before .put-word3 .ensures)
+returns-7 c = rw (c .before .before .before .before .before .enum-told3 .given .1) (c .before .before .put-word2 .ensures)
 
 same-length-8 : tie.Need-same-length-8
 same-length-8 c = c .before .before .put-numbered5 .kept .1 .1 .0
@@ -131,8 +128,7 @@ write-line-spec =
     tie.close
     (tie.spec
     enum-told
-    slice-aggregate-put-word
-    put-word-requires
+    put-ok-requires
     enum-known-words
     slice-aggregate-put-numbered
     put-numbered-requires
@@ -146,11 +142,11 @@ write-line-spec =
     slice-aggregate-put-numbered-4
     put-numbered-requires-4
     enum-told-2
+    slice-aggregate-put-word
+    put-word-requires
+    enum-told-3
     slice-aggregate-put-word-2
     put-word-requires-2
-    enum-told-3
-    slice-aggregate-put-word-3
-    put-word-requires-3
     enum-known-words-5
     slice-aggregate-put-numbered-5
     put-numbered-requires-5

@@ -1,23 +1,30 @@
 -- `checker::places::holds_up` meets its contract. Assumes nothing.
 use mathlib.Core.Path.{_≡_, sym, _∙_}
+use Prim.Native.Nat.{_%_}
+use native.Mathlib.Nat.{mod-eq-of-lt}
 use borrow.Author.Needs.{needs}
 use Rattle.checker.proofs.places.holds_up.Statement.{statement}
 use Rattle.checker.proofs.places.holds_up.Tie as tie
 
-goes-before-requires : tie.Need-goes-before-requires
-goes-before-requires c κs = tt
-
-number-at-requires : tie.Need-number-at-requires
-number-at-requires c κs = tt
-
-is-named-requires : tie.Need-is-named-requires
-is-named-requires c κs = tt
+has-requires : tie.Need-has-requires
+has-requires c κs = search needs
 
 returns : tie.Need-returns
-returns c = rw (sym (c .before .before .before .goes-before .ensures) ∙ c .before .before .if1 .taken, c .is-named .ensures, c .before .number-at .ensures)
+returns c =
+    let b = c .before in
+    let e = sym (b .has .ensures) ∙ c .if1 .taken in
+    let m : b .before .before .args .j % 32 ≡ b .before .before .args .j = mod-eq-of-lt (b .before .before .pre) in
+    rw (rw m at e)
+
+goes-before-requires : tie.Need-goes-before-requires
+goes-before-requires c κs = search needs
 
 returns-2 : tie.Need-returns-2
-returns-2 c = rw (sym (c .before .goes-before .ensures) ∙ c .if1 .left)
+returns-2 c =
+    let b = c .before .before in
+    let e = sym (b .has .ensures) ∙ c .before .if1 .left in
+    let m : b .before .before .args .j % 32 ≡ b .before .before .args .j = mod-eq-of-lt (b .before .before .pre) in
+    rw (rw m at e) (c .goes-before .ensures)
 
 pub holds-up-spec : {M : Type 1} → statement M
-holds-up-spec = tie.close (tie.spec goes-before-requires number-at-requires is-named-requires returns returns-2)
+holds-up-spec = tie.close (tie.spec has-requires returns goes-before-requires returns-2)

@@ -1,8 +1,8 @@
 -- `wire::reader::request_at` meets its contract: each arm is a line of the table, and `_` lies past its end. Assumes nothing.
-use mathlib.Core.Path.{_≡_, sym}
-use Prim.Native.Nat.{ℕ, suc, _≤_, zero-le}
-use native.Mathlib.Omega.{arith}
+use mathlib.Core.Path.{sym}
+use Prim.Native.Nat.{_≤_, zero-le}
 use lib.ListN.{List·getD-eq-default}
+use Rattle.kinds.proofs.CaseLaws.{above}
 use Rattle.wire.specs.declared.reader.Request.the-variants.{Ordering}
 use Rattle.wire.specs.Answers.{requests, requestAt}
 use Rattle.wire.proofs.reader.request_at.Statement.{statement}
@@ -43,10 +43,6 @@ returns-8 c = rw (c .match .keys8)
 returns-9 : tie.Need-returns-9
 unfolding requestAt
 returns-9 c = rw (c .match .keys9)
-
--- a number that is at least m and is not m
-above : {m k : ℕ} → m ≤ k → (k ≡ m → ⊥) → suc m ≤ k
-above h e = omega arith
 
 returns-10 : tie.Need-returns-10
 unfolding requestAt

@@ -1,0 +1,2 @@
+pub mod Preds
+pub mod Placed
