@@ -1,6 +1,6 @@
 -- What the contracts of the public functions say of a result, with the arguments in front and the result behind. A promise that is
 -- stated for all that meets one of these holds of all that the function can give. The code has the same words behind `ensures`: the
--- functions of `witness` and `witness_calls` call it, and are proved to give what stands here.
+-- functions of `witness` call it, and are proved to give what stands here.
 use mathlib.Core.Path.{_≡_}
 use mathlib.Core.Bool.{Bool}
 use mathlib.Core.List.{List}
