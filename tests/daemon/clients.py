@@ -177,7 +177,8 @@ def types():
 
 
 PLANNER = """
-import os, sys, time
+import signal, sys, time
+signal.signal(signal.SIGINT, signal.default_int_handler)  # whoever runs the tests in the background may have it ignored
 sys.path.insert(0, sys.argv[1])
 from delphrimock import Coordinator
 c = Coordinator(sys.argv[2])
