@@ -1,14 +1,15 @@
 // The call that gives a transaction its number, its slot and its bases: begin. RULES, Calls.
 ghost use mathlib.Core.Path.{_≡_};
-ghost use Prim.Native.Nat.{_<_, _+_};
-ghost use lib.ListN.{length, replicate};
+ghost use lib.ListN.{replicate};
 ghost use Rattle.sites.specs.Sites.{sitesOf};
-ghost use Rattle.method.specs.Records.{number, noPart, withRow, withLast};
+ghost use Rattle.method.specs.Records.{noPart};
 ghost use Rattle.method.specs.Conditions.{badSites};
 ghost use Rattle.method.specs.Calls.Call.{begin as beginCall};
-ghost use Rattle.method.specs.Effects.{based as basedParts, newRow, answered, step};
+ghost use Rattle.method.specs.Effects.{based as basedParts, step};
+ghost use Rattle.cells.specs.Layout.{tableFrom};
+ghost use Rattle.cells.specs.After.{cellsAfter};
+use cells::Cells;
 use method::Answer;
-use method::Answered;
 use method::Number;
 use method::Part;
 use method::Row;
@@ -16,23 +17,22 @@ use method::SITES;
 use method::SLOTS;
 use method::Stage;
 use method::State;
-use method::Table;
 use method::Ticket;
 
 // An empty list of sites, or one with a site that the table lacks.
-fn are_bad_sites(t: Table, x: u8) -> bool
-    ensures answer { λ r. ⌜ r ≡ badSites t x ⌝ }
+fn are_bad_sites(c: &Cells, x: u8) -> bool
+    ensures answer { λ r. ⌜ r ≡ badSites (tableFrom (now (c .entry))) x ⌝ }
 {
     if x == 0 {
         return true;
     }
-    sites::goes_outside(x, t.sites)
+    let n = cells::sites(c);
+    sites::goes_outside(x, n)
 }
 
 // Each listed site at the first stage, its base the highest committed ticket there.
-fn based(high: [Ticket; SITES], x: u8) -> [Part; SITES]
-    requires { ⌜ length high ≡ 8 ⌝ }
-    ensures answer { λ r. ⌜ r ≡ basedParts high (sitesOf x) (replicate 8 noPart) ⌝ }
+fn based(c: &Cells, x: u8) -> [Part; SITES]
+    ensures answer { λ r. ⌜ r ≡ basedParts (tableFrom (now (c .entry)) .high) (sitesOf x) (replicate 8 noPart) ⌝ }
 {
     let none = Part {
         stage: Stage::Begun,
@@ -43,7 +43,7 @@ fn based(high: [Ticket; SITES], x: u8) -> [Part; SITES]
     let mut left = x;
     while left != 0 {
         let s = u8::trailing_zeros(left) as usize;
-        let base = high[s];
+        let base = cells::high_at(c, s);
         let p = Part {
             stage: Stage::Begun,
             base: base,
@@ -55,14 +55,26 @@ fn based(high: [Ticket; SITES], x: u8) -> [Part; SITES]
     parts
 }
 
-fn begun(t: Table, x: u8, slot: usize) -> Answered
-    requires { ⌜ (slot < 32) × (t .last .0 < 4294967295) ⌝ }
-    ensures answer { λ r. ⌜ r ≡ answered (withRow (withLast t (number (t .last .0 + 1))) slot (newRow t x)) (Answer.Begun (number (t .last .0 + 1))) ⌝ }
+pub fn begin(c: &mut Cells, x: u8) -> Answer
+    ensures answer { λ r. ⌜ r ≡ step (tableFrom (now (c .entry))) (beginCall x) .answer ⌝ }
+    ensures cells { λ r. ⌜ now (c .exit) ≡ cellsAfter (now (c .entry)) (beginCall x) ⌝ }
 {
-    let last = t.last;
+    if cells::sites(c) == 0 {
+        return Answer::Refused(1);
+    }
+    if are_bad_sites(c, x) {
+        return Answer::Refused(3);
+    }
+    let last = cells::last(c);
+    if last.0 == 4294967295 {
+        return Answer::Refused(8);
+    }
+    let slot = slots::lowest_free(c);
+    if slot == SLOTS {
+        return Answer::Refused(7);
+    }
     let n = Number(last.0 + 1);
-    let high = t.high;
-    let parts = based(high, x);
+    let parts = based(c, x);
     let row = Row {
         state: State::Active,
         number: n,
@@ -70,31 +82,7 @@ fn begun(t: Table, x: u8, slot: usize) -> Answered
         last: Number(0),
         parts: parts,
     };
-    let mut u = t;
-    u.last = n;
-    u.rows[slot] = row;
-    Answered {
-        table: u,
-        answer: Answer::Begun(n),
-    }
-}
-
-pub fn begin(t: Table, x: u8) -> Answered
-    ensures answer { λ r. ⌜ r ≡ step t (beginCall x) ⌝ }
-{
-    if t.sites == 0 {
-        return records::refuse(t, 1);
-    }
-    if are_bad_sites(t, x) {
-        return records::refuse(t, 3);
-    }
-    let last = t.last;
-    if last.0 == 4294967295 {
-        return records::refuse(t, 8);
-    }
-    let slot = slots::lowest_free(t);
-    if slot == SLOTS {
-        return records::refuse(t, 7);
-    }
-    begun(t, x, slot)
+    cells::put_last(c, n);
+    cells::put_row(c, slot, row);
+    Answer::Begun(n)
 }

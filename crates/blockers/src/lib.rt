@@ -2,14 +2,15 @@
 // RULES, Graph and decision; Forgetting.
 ghost use mathlib.Core.Path.{_≡_};
 ghost use mathlib.Core.Bool.{_&&_};
+ghost use Prim.Native.Nat.{_<_};
 ghost use lib.Dec.{leb};
 ghost use Rattle.orders.specs.Arrow.{beforeb};
-ghost use Rattle.method.specs.Records.{active, committed, goesb};
-ghost use Rattle.method.specs.Conditions.{hasPred, heldBack};
-use method::Row;
+ghost use Rattle.method.specs.Records.{active, committed, goesb, rowAt};
+ghost use Rattle.cells.specs.Layout.{tableFrom};
+use cells::Cells;
+use method::Number;
 use method::SITES;
 use method::SLOTS;
-use method::Table;
 use method::Ticket;
 
 // Of two tickets at a site: neither is 0, and x is the smaller.
@@ -19,16 +20,15 @@ fn is_before(x: Ticket, y: Ticket) -> bool
     if 0 < x.0 { x.0 < y.0 } else { false }
 }
 
-// Is there a site at which both hold a ticket, and a holds the smaller one?
-fn goes_before(a: Row, b: Row) -> bool
-    ensures answer { λ r. ⌜ r ≡ goesb a b ⌝ }
+// Is there a site at which both hold a ticket, and slot i holds the smaller one?
+fn goes_before(c: &Cells, i: usize, j: usize) -> bool
+    requires { ⌜ (i < 32) × (j < 32) ⌝ }
+    ensures answer { λ r. ⌜ r ≡ goesb (rowAt (tableFrom (now (c .entry))) i) (rowAt (tableFrom (now (c .entry))) j) ⌝ }
 {
     let mut s: usize = 0;
     while s < SITES {
-        let p = a.parts[s];
-        let q = b.parts[s];
-        let x = p.ticket;
-        let y = q.ticket;
+        let x = cells::ticket_at(c, i, s);
+        let y = cells::ticket_at(c, j, s);
         if is_before(x, y) {
             return true;
         }
@@ -37,56 +37,31 @@ fn goes_before(a: Row, b: Row) -> bool
     false
 }
 
-fn points_to(q: Row, r: Row) -> bool
-    ensures answer { λ b. ⌜ b ≡ committed q && goesb q r ⌝ }
+// Is slot i a kept one with an arrow to slot j?
+pub fn points_to(c: &Cells, i: usize, j: usize) -> bool
+    ensures answer { λ b. ⌜ b ≡ committed (rowAt (tableFrom (now (c .entry))) i) && goesb (rowAt (tableFrom (now (c .entry))) i) (rowAt (tableFrom (now (c .entry))) j) ⌝ }
 {
-    let state = q.state;
-    if records::is_committed(state) {
-        goes_before(q, r)
+    if SLOTS <= i {
+        return false;
+    }
+    if SLOTS <= j {
+        return false;
+    }
+    if cells::is_committed(c, i) {
+        goes_before(c, i, j)
     } else {
         false
     }
 }
 
-fn is_older(a: Row, r: Row) -> bool
-    ensures answer { λ b. ⌜ b ≡ active a && leb (a .number .0) (r .last .0) ⌝ }
+// Is it an active one with a number at or below this one?
+pub fn is_older(c: &Cells, i: usize, n: Number) -> bool
+    ensures answer { λ b. ⌜ b ≡ active (rowAt (tableFrom (now (c .entry))) i) && leb (rowAt (tableFrom (now (c .entry))) i .number .0) (n .0) ⌝ }
 {
-    let state = a.state;
-    if records::is_active(state) {
-        let n = a.number;
-        let l = r.last;
-        n.0 <= l.0
+    if cells::is_active(c, i) {
+        let number = cells::number_at(c, i);
+        number.0 <= n.0
     } else {
         false
     }
-}
-
-// Does a kept committed one have an arrow to it?
-pub fn has_pred(t: Table, r: Row) -> bool
-    ensures answer { λ b. ⌜ b ≡ hasPred t r ⌝ }
-{
-    let mut i: usize = 0;
-    while i < SLOTS {
-        let q = t.rows[i];
-        if points_to(q, r) {
-            return true;
-        }
-        i += 1;
-    }
-    false
-}
-
-// Has an active one a number at or below the last recorded at its commit?
-pub fn is_held_back(t: Table, r: Row) -> bool
-    ensures answer { λ b. ⌜ b ≡ heldBack t r ⌝ }
-{
-    let mut i: usize = 0;
-    while i < SLOTS {
-        let a = t.rows[i];
-        if is_older(a, r) {
-            return true;
-        }
-        i += 1;
-    }
-    false
 }

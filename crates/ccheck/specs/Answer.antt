@@ -1,5 +1,5 @@
 -- The number that the C call answers, from the check's answer and from the two tests. RULES, The C call.
-use mathlib.Core.Bool.{Bool, _&&_}
+use mathlib.Core.Bool.{_&&_}
 use mathlib.Core.List.{List}
 use Prim.Native.Nat.{ℕ, _%_}
 use lib.Dec.{eqb}

@@ -1,2 +1,3 @@
 mod RangeLaws
+mod GivenLaws
 mod ServedLaws

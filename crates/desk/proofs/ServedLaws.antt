@@ -1,32 +1,52 @@
 -- What serving leaves, with room for the longest line and without. Assumes nothing.
-use mathlib.Core.Path.{_≡_, refl}
+use mathlib.Core.Path.{_≡_, refl, sym, ap, _∙_}
 use mathlib.Core.List.{List}
 use Prim.Native.Nat.{ℕ, _+_, _<_, _≤_}
 use lib.ListN.{length}
 use borrow.Author.Tests.{le-leb, lt-leb}
 use Rattle.endian.specs.Laid.{laid}
-use Rattle.lines.specs.Line.{lineBytes}
-use Rattle.table.specs.declared.Table.{Table}
-use Rattle.table.specs.Shut.{shutTable}
-use Rattle.replies.specs.declared.Replied.{Replied}
-use Rattle.replies.specs.Desk.{deskBody}
-use Rattle.queries.specs.Said.{saidLine, spokenOf}
-use Rattle.queries.proofs.SaidLaws.{line-of-said}
-use Rattle.desk.specs.Served.{servedTable, servedCount, servedOut}
+use Rattle.lines.specs.declared.Words.{Words}
+use Rattle.lines.specs.Line.{Line, Line.say, lineBytes}
+use Rattle.method.specs.declared.Table.{Table}
+use Rattle.method.specs.Slots.{keptFlat}
+use Rattle.cells.specs.Layout.{tableFrom}
+use Rattle.cells.specs.After.{cellsAfterAll}
+use Rattle.queries.specs.Queries.{orderLine, ifOpen}
+use Rattle.replies.specs.declared.Due.{Due}
+use Rattle.replies.specs.Desk.{deskBody, callsOf}
+use Rattle.replies.specs.Due.{dueFor}
+use Rattle.replies.proofs.DueLaws.{order-of-due, words-of-due}
+use Rattle.desk.specs.Served.{servedCalls, servedTable, servedCount, servedOut}
 
-module _ (t : Table) (b out : List ℕ) (place : ℕ) where
-  abbrev pub Serves : Table → ℕ → List ℕ → Type 0
-  Serves u n l = (u ≡ shutTable (servedTable (t .held) b out place)) × ((n ≡ servedCount (t .held) b out place) × (l ≡ servedOut (t .held) b out place))
+module _ (c b out : List ℕ) (place : ℕ) where
+  abbrev t : Table
+  t = tableFrom c
 
-  pub serves-nothing : length out < place + 358 → Serves t 0 out
-  serves-nothing h = rw (lt-leb (place + 358) (length out) h) (refl, (refl, refl))
+  abbrev pub Serves : List ℕ → ℕ → List ℕ → Type 0
+  Serves d n l =
+      (d ≡ cellsAfterAll c (servedCalls b out place))
+      × ((tableFrom d ≡ servedTable t b out place) × ((n ≡ servedCount t b out place) × (l ≡ servedOut t b out place)))
 
-  -- what was replied means the line that the desk owes, and that was written
-  pub serves-reply : place + 358 ≤ length out → (r : Replied)
-      → (r .table ≡ shutTable (deskBody (t .held) b .0)) × (r .spoken ≡ spokenOf (deskBody (t .held) b .1))
-      → (n at : ℕ) (l : List ℕ)
-      → (n ≡ length (lineBytes (saidLine (r .spoken .said) (r .spoken .numbers)))) × (l ≡ laid out at (lineBytes (saidLine (r .spoken .said) (r .spoken .numbers))))
-      → at ≡ place → Serves (r .table) n l
-  serves-reply h r e n at l w p =
-      let f : saidLine (r .spoken .said) (r .spoken .numbers) ≡ deskBody (t .held) b .1 = rw (e .1) (line-of-said (deskBody (t .held) b .1)) in
-      rw (le-leb (place + 358) (length out) h) (e .0, (rw (← f) (w .0), rw (← f, ← p) (w .1)))
+  pub serves-nothing : length out < place + 358 → Serves c 0 out
+  unfolding cellsAfterAll
+  serves-nothing h = rw (lt-leb (place + 358) (length out) h) (refl, (refl, (refl, refl)))
+
+  -- what was replied, and the line that was written for it
+  module _ (room : place + 358 ≤ length out) (d : List ℕ) (r : Due)
+      (e : (d ≡ cellsAfterAll c (callsOf b)) × ((tableFrom d ≡ deskBody t b .0) × (r ≡ dueFor t b))) (n : ℕ) (l : List ℕ) where
+    line-served : (x : Line) → deskBody t b .1 ≡ x → (n ≡ length (lineBytes x)) × (l ≡ laid out place (lineBytes x)) → Serves d n l
+    line-served x f w = rw (le-leb (place + 358) (length out) room) (e .0, (e .1 .0, (rw (f) (w .0), rw (f) (w .1))))
+
+    pub serves-words : (w : Words) → r ≡ Due.Words w → (n ≡ length (lineBytes (say w))) × (l ≡ laid out place (lineBytes (say w))) → Serves d n l
+    serves-words w q = line-served (say w) (words-of-due t b w (sym (e .1 .1) ∙ q))
+
+    -- the order was asked of the cells as they were left, and they were left as they were
+    pub serves-order : r ≡ Due.Order
+        → (n ≡ length (lineBytes (ifOpen (tableFrom d) (orderLine (keptFlat (tableFrom d))))))
+        × (l ≡ laid out place (lineBytes (ifOpen (tableFrom d) (orderLine (keptFlat (tableFrom d))))))
+        → Serves d n l
+    unfolding cellsAfterAll
+    serves-order q w =
+        let o = order-of-due t b (sym (e .1 .1) ∙ q) in
+        let same : d ≡ c = e .0 ∙ ap (cellsAfterAll c) (o .1) in
+        line-served (ifOpen t (orderLine (keptFlat t))) (o .0) (rw same at (w .0), rw same at (w .1))

@@ -2,45 +2,49 @@
 ghost use mathlib.Core.Path.{_≡_};
 ghost use Rattle.method.specs.Calls.Call.{abort as abortCall, forget as forgetCall};
 ghost use Rattle.method.specs.Effects.{step};
-use method::Answered;
+ghost use Rattle.cells.specs.Layout.{tableFrom};
+ghost use Rattle.cells.specs.After.{cellsAfter};
+use cells::Cells;
+use method::Answer;
 use method::Number;
-use method::Table;
 use slots::Gate;
+use slots::Wanted;
 
-pub fn abort(t: Table, n: Number) -> Answered
-    ensures answer { λ r. ⌜ r ≡ step t (abortCall (n .0)) ⌝ }
+pub fn abort(c: &mut Cells, n: Number) -> Answer
+    ensures answer { λ r. ⌜ r ≡ step (tableFrom (now (c .entry))) (abortCall (n .0)) .answer ⌝ }
+    ensures cells { λ r. ⌜ now (c .exit) ≡ cellsAfter (now (c .entry)) (abortCall (n .0)) ⌝ }
 {
-    match slots::enter(t, n) {
-        Gate::Refused(k) => records::refuse(t, k),
+    match slots::enter(c, n) {
+        Gate::Refused(k) => Answer::Refused(k),
         Gate::At(slot) => {
-            let row = t.rows[slot];
-            let state = row.state;
-            if !records::is_active(state) {
-                return records::refuse(t, 4);
+            if !cells::is_active(c, slot) {
+                return Answer::Refused(4);
             }
-            records::without(t, slot)
+            cells::free_slot(c, slot);
+            Answer::Done
         }
     }
 }
 
-pub fn forget(t: Table, n: Number) -> Answered
-    ensures answer { λ r. ⌜ r ≡ step t (forgetCall (n .0)) ⌝ }
+pub fn forget(c: &mut Cells, n: Number) -> Answer
+    ensures answer { λ r. ⌜ r ≡ step (tableFrom (now (c .entry))) (forgetCall (n .0)) .answer ⌝ }
+    ensures cells { λ r. ⌜ now (c .exit) ≡ cellsAfter (now (c .entry)) (forgetCall (n .0)) ⌝ }
 {
-    match slots::enter(t, n) {
-        Gate::Refused(k) => records::refuse(t, k),
+    match slots::enter(c, n) {
+        Gate::Refused(k) => Answer::Refused(k),
         Gate::At(slot) => {
-            let row = t.rows[slot];
-            let state = row.state;
-            if !records::is_committed(state) {
-                return records::refuse(t, 4);
+            if !cells::is_committed(c, slot) {
+                return Answer::Refused(4);
             }
-            if blockers::has_pred(t, row) {
-                return records::refuse(t, 9);
+            if slots::has(c, Wanted::PointsTo(slot)) {
+                return Answer::Refused(9);
             }
-            if blockers::is_held_back(t, row) {
-                return records::refuse(t, 9);
+            let last = cells::last_at(c, slot);
+            if slots::has(c, Wanted::Older(last)) {
+                return Answer::Refused(9);
             }
-            records::without(t, slot)
+            cells::free_slot(c, slot);
+            Answer::Done
         }
     }
 }

@@ -1,6 +1,6 @@
 -- The test of a table, row by row: what is left of it from row i on. Assumes nothing.
-use mathlib.Core.Path.{_≡_, refl}
-use mathlib.Core.Bool.{true, false, not, _&&_, and-false}
+use mathlib.Core.Path.{_≡_}
+use mathlib.Core.Bool.{true, false, not, and-false}
 use mathlib.Core.List.{List, _∷_}
 use Prim.Native.Nat.{ℕ, _+_, _-_, _/_, _%_, _<_, _≤_}
 use native.Mathlib.Omega.{arith}
@@ -8,7 +8,7 @@ use lib.Dec.{eqb}
 use lib.ListN.{length}
 use borrow.Author.Tests.{eq-eqb, ne-eqb, le-leb, lt-leb}
 use Rattle.graph.specs.Lists.{anyOf}
-use Rattle.orders.specs.Entries.{Entry, entryAt, entriesFrom, entriesIn}
+use Rattle.orders.specs.Entries.{entryAt, entriesFrom, entriesIn}
 use Rattle.orders.specs.Good.{clash, apartb, goodb}
 use Rattle.orders.proofs.WalkLaws.{rows-more, rows-end}
 use Rattle.good.specs.Scan.{restGood}

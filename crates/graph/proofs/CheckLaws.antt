@@ -1,8 +1,8 @@
 -- The test `orderb` passes exactly the orders, where no two rows have the same number. Assumes nothing.
 -- A number missing from an order that is otherwise sound would make it shorter than the rows are many.
-use mathlib.Core.Path.{_≡_, refl, sym, ap, _∙_}
+use mathlib.Core.Path.{_≡_, refl, sym}
 use mathlib.Core.Bool.{Bool, true, false, not, _&&_}
-use mathlib.Core.List.{List, [], _∷_, _++_, map, append-nil, Memᴰ·map, Memᴰ·of-map, Memᴰ·cast}
+use mathlib.Core.List.{List, [], _∷_, _++_, map, append-nil, Memᴰ·map, Memᴰ·cast}
 use Prim.Native.Nat.{ℕ, zero, suc, _<_}
 use native.Mathlib.Omega.{arith}
 use native.Mathlib.Decide.{decLt}

@@ -1,16 +1,15 @@
 -- A decision keeps the invariant: commit, if the candidate fits, and it does if it makes no cycle with the kept rows; else its slot is
 -- freed.
 -- Assumes nothing.
-use mathlib.Core.Path.{_≡_, refl, sym, ap, subst, _∙_}
-use mathlib.Core.Bool.{Bool, true, false}
+use mathlib.Core.Path.{_≡_, refl, ap, subst, _∙_}
+use mathlib.Core.Bool.{true, false}
 use mathlib.Core.List.{List, _∷_, map}
-use mathlib.Core.Logic.{_≢_, _⊎_, inl, inr}
+use mathlib.Core.Logic.{_⊎_, inl, inr}
 use Prim.Native.Nat.{ℕ, _<_, _≤_, max}
 use native.Mathlib.Omega.{arith}
 use native.Mathlib.Decide.{decLe}
 use lib.ListN.{length, getD, set}
 use lib.Seq.{getD-set-same}
-use Rattle.graph.specs.Lists.{_∈_}
 use Rattle.graph.specs.Path.{Cycle}
 use Rattle.graph.proofs.MemberLaws.{member-or-not}
 use Rattle.graph.proofs.TestLaws.{true-or-false, true-not-false}
@@ -33,7 +32,7 @@ use Rattle.method.proofs.SlotLaws.{first-of-set, kept-of-place, place-of-kept}
 use Rattle.method.proofs.ConditionLaws.{has-number-iff}
 use Rattle.method.proofs.RowLaws.{ticket-part, length-raised, raised-other, raised-listed}
 use Rattle.method.specs.Seen.{IsActive, IsCommitted, Has, tick}
-use Rattle.invariant.specs.Sound.{Differs, Sound}
+use Rattle.invariant.specs.Sound.{Differs}
 use Rattle.invariant.specs.Orderly.{Fits}
 use Rattle.invariant.specs.Invariant.{Invariant}
 use Rattle.invariant.proofs.ChangeLaws.{not-committed}

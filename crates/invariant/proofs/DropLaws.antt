@@ -5,15 +5,13 @@ use mathlib.Core.Logic.{_≢_, _⊎_, inl, inr}
 use Prim.Native.Nat.{ℕ, _<_}
 use lib.ListN.{length}
 use Rattle.orders.specs.Entries.{Entry}
-use Rattle.method.specs.declared.State.{State}
 use Rattle.method.specs.declared.Row.{Row}
 use Rattle.method.specs.declared.Table.{Table}
 use Rattle.method.specs.Records.{freeRow, rowAt, highAt, withRow, Goes}
 use Rattle.method.specs.Slots.{slotOf, rowOfNumber, entryOf}
 use Rattle.method.specs.Conditions.{Closed, Unknown, MayNotForget}
 use Rattle.method.specs.Effects.{freed}
-use Rattle.method.proofs.RecordLaws.{never}
-use Rattle.method.specs.Seen.{IsFree, IsActive, IsCommitted, num}
+use Rattle.method.specs.Seen.{IsActive, IsCommitted, num}
 use Rattle.invariant.specs.Sound.{Past, Gone, Sound}
 use Rattle.invariant.specs.Invariant.{Invariant}
 use Rattle.invariant.proofs.ChangeLaws.{Changed, not-committed, not-free, every}

@@ -1,19 +1,14 @@
 -- Every call keeps the invariant, whatever it is and however it is answered. Assumes nothing.
-use mathlib.Core.Path.{_≡_, refl, sym, ap, subst, _∙_}
+use mathlib.Core.Path.{_≡_, refl, sym, subst}
 use mathlib.Core.Bool.{Bool, true, false}
 use mathlib.Core.List.{List, _∷_, map}
-use mathlib.Core.Logic.{_⊎_, inl, inr}
-use Prim.Native.Nat.{ℕ}
 use native.Mathlib.Decide.{ℕ-discrete}
-use Rattle.graph.specs.Path.{Cycle}
 use Rattle.graph.specs.Acyclic.{acyclic}
 use Rattle.orders.specs.Arrow.{arrowb}
 use Rattle.orders.specs.Entries.{Entry}
 use Rattle.method.specs.declared.Table.{Table}
-use Rattle.method.specs.declared.Answer.{Answer}
-use Rattle.method.specs.declared.Answered.{Answered}
-use Rattle.method.specs.Records.{ticketsOf, Goes}
-use Rattle.method.specs.Slots.{rowOfNumber, kept, entryOf}
+use Rattle.method.specs.Records.{ticketsOf}
+use Rattle.method.specs.Slots.{rowOfNumber, kept}
 use Rattle.method.specs.Conditions.{Closed}
 use Rattle.method.specs.Calls.{Call, rules, NoneHolds}
 use Rattle.method.specs.Calls.Call.{openWith, begin, reportTicket, reportPrepared, abort, decide, forget, sweep}
@@ -22,7 +17,7 @@ use Rattle.method.proofs.CallLaws.{Steps, Steps.stopped, Steps.passed, step-goe
 use Rattle.method.proofs.GraphLaws.{no-cycle-iff}
 use Rattle.invariant.specs.Noted.{noted}
 use Rattle.invariant.specs.Invariant.{Invariant}
-use Rattle.invariant.proofs.OpenLaws.{invariant-closed, invariant-open, invariant-begin}
+use Rattle.invariant.proofs.OpenLaws.{invariant-open, invariant-begin}
 use Rattle.invariant.proofs.ReportLaws.{invariant-ticket, invariant-prepared}
 use Rattle.invariant.proofs.DropLaws.{invariant-abort, invariant-forget}
 use Rattle.invariant.proofs.DecideLaws.{entry-committed, fits-of-test, invariant-commit, invariant-cycle}

@@ -1,18 +1,17 @@
 -- On every table that calls can give, the kept rows are a good ticket table and have an order: the service never answers 12
 -- or 13. Assumes nothing.
-use mathlib.Core.Path.{_≡_, refl, sym, ap, _∙_}
-use mathlib.Core.Bool.{Bool, true, false}
+use mathlib.Core.Path.{_≡_, sym, ap, _∙_}
+use mathlib.Core.Bool.{true, false}
 use mathlib.Core.List.{List, [], _∷_, map, Memᴰ·of-map}
 use mathlib.Core.Logic.{_≢_, _⊎_, inl, inr}
-use Prim.Native.Nat.{ℕ, zero, suc, _*_, _<_, _≤_, _%_}
+use Prim.Native.Nat.{ℕ, zero, suc, _<_}
 use native.Mathlib.Omega.{arith}
 use lib.ListN.{length, getD, length-map}
 use Rattle.graph.specs.Lists.{_∈_, _⊆_, keep}
-use Rattle.graph.specs.Path.{Cycle}
 use Rattle.graph.proofs.TestLaws.{true-or-false}
 use Rattle.graph.proofs.MemberLaws.{keep-of-true, keep-of-false, length-keep-le}
 use Rattle.graph.proofs.PathLaws.{cycle-of-larger}
-use Rattle.orders.specs.Entries.{Entry, EntryArrow, entriesIn, flatOf}
+use Rattle.orders.specs.Entries.{Entry, entriesIn}
 use Rattle.orders.specs.Good.{Apart, Clash, GoodRows}
 use Rattle.orders.specs.Order.{InOrder}
 use Rattle.orders.proofs.EntriesLaws.{length-flatOf, entries-of-flat}

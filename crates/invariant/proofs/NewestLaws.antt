@@ -1,6 +1,6 @@
 -- The newest against all that were ever committed: an active row that makes no cycle with the kept rows makes none with the
 -- forgotten ones either, and differs from each of them. Assumes nothing.
-use mathlib.Core.Path.{_≡_, sym, ap, subst, _∙_}
+use mathlib.Core.Path.{_≡_, sym, subst}
 use mathlib.Core.Logic.{_≢_, _⊎_, inl, inr}
 use mathlib.Core.List.{List, _∷_, List·Memᴰ·head as here, List·Memᴰ·tail as there, List·Memᴰ·cases-cons, Memᴰ·cast}
 use Prim.Native.Nat.{ℕ, _<_}
@@ -14,7 +14,7 @@ use Rattle.orders.specs.Good.{Clash}
 use Rattle.method.specs.declared.Row.{Row}
 use Rattle.method.specs.Records.{ticketsOf}
 use Rattle.method.specs.Slots.{entryOf}
-use Rattle.method.specs.Seen.{IsActive, IsCommitted, num, tick}
+use Rattle.method.specs.Seen.{IsActive, IsCommitted, tick}
 use Rattle.invariant.specs.Sound.{Above, Differs, Past, Still, Gone, Sound}
 use Rattle.invariant.proofs.ChangeLaws.{not-committed, not-free}
 

@@ -5,36 +5,34 @@ use mathlib.Core.Logic.{_⊎_, inl, inr}
 use Prim.Native.Nat.{ℕ, zero, suc, _+_, _<_, _≤_}
 use native.Mathlib.Omega.{arith}
 use native.Mathlib.Decide.{decLt}
-use lib.ListN.{length, getD, replicate, length-set, length-replicate, getD-replicate, List·getD-eq-default}
+use lib.ListN.{length, replicate, length-replicate, getD-replicate, List·getD-eq-default}
 use Rattle.graph.specs.Lists.{_∈_, anyOf}
 use Rattle.graph.proofs.TestLaws.{true-of-not-false}
 use Rattle.graph.proofs.MemberLaws.{member-or-not}
 use Rattle.graph.proofs.PathLaws.{no-path-of-nil}
 use Rattle.orders.specs.Entries.{Entry}
 use Rattle.orders.proofs.GoodLaws.{apart-of-nil}
-use Rattle.sites.specs.Sites.{sitesOf, Outside}
+use Rattle.sites.specs.Sites.{sitesOf}
 use Rattle.sites.proofs.SitesLaws.{rising-sites, lt-of-member}
-use Rattle.method.specs.declared.Part.{Part}
 use Rattle.method.specs.declared.Row.{Row}
 use Rattle.method.specs.declared.Table.{Table}
 use Rattle.method.specs.Records.{ticket, noPart, freeRow, pastEnd, closed, rowAt, partAt, highAt, isFree, number, withRow, withLast}
 use Rattle.method.specs.Slots.{freeSlot}
-use Rattle.method.specs.Conditions.{Closed, BadOpening, BadSites, Full, isFull}
-use Rattle.method.specs.Effects.{padded, opened, based, newRow, effect}
-use Rattle.method.specs.Calls.Call.{openWith, begin}
+use Rattle.method.specs.Conditions.{Closed, BadOpening, BadSites, Full}
+use Rattle.method.specs.Effects.{padded, opened, newRow, effect}
+use Rattle.method.specs.Calls.Call.{begin}
 use Rattle.method.proofs.RecordLaws.{never, free-iff}
 use Rattle.method.proofs.ConditionLaws.{full-iff}
 use Rattle.method.proofs.SlotLaws.{first-found}
 use Rattle.method.proofs.RowLaws.{ticket-part, getD-replicate-same, length-based, based-other, based-listed}
-use Rattle.method.specs.Seen.{IsFree, IsCommitted, num, tick, Has, base}
+use Rattle.method.specs.Seen.{IsFree, IsCommitted, Has, base}
 use Rattle.invariant.specs.Sound.{Sound}
 use Rattle.invariant.specs.Invariant.{Shape, Invariant}
-use Rattle.invariant.proofs.ChangeLaws.{Changed}
 use Rattle.invariant.proofs.FreeLaws.{Blank, blank-row, blank-left}
 use Rattle.invariant.proofs.BeginLaws.{Fresh, sound-begun}
 use Rattle.invariant.proofs.OrderlyLaws.{orderly-empty, orderly-changed}
 use Rattle.invariant.proofs.ShapeLaws.{shape-set}
-use Rattle.invariant.proofs.KnownLaws.{changed, tick-zero, blank-free, blank-past-end, no-site-free}
+use Rattle.invariant.proofs.KnownLaws.{changed, blank-free, blank-past-end, no-site-free}
 
 -- a table of free slots
 sound-empty : (row : ℕ → Row) (high : ℕ → ℕ) (last : ℕ) → ((i : ℕ) → Blank (row i)) → Sound row high last []

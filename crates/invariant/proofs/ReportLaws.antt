@@ -13,15 +13,12 @@ use Rattle.orders.specs.Entries.{Entry}
 use Rattle.sites.specs.Sites.{sitesOf}
 use Rattle.sites.proofs.SitesLaws.{lt-of-member}
 use Rattle.method.specs.declared.Ticket.{Ticket}
-use Rattle.method.specs.declared.Stage.{Stage}
 use Rattle.method.specs.declared.State.{State}
 use Rattle.method.specs.declared.Report.{Report}
-use Rattle.method.specs.declared.Step.{Step}
 use Rattle.method.specs.declared.Part.{Part}
 use Rattle.method.specs.declared.Row.{Row}
 use Rattle.method.specs.declared.Table.{Table}
 use Rattle.method.specs.Records.{ticket, pastEnd, rowAt, partAt, highAt, withRow}
-use Rattle.method.specs.Stages.{stepOf}
 use Rattle.method.specs.Slots.{slotOf, rowOfNumber}
 use Rattle.method.specs.Conditions.{Closed, Unknown, NotListed, NoStep, NotAbove, Taken}
 use Rattle.method.specs.Effects.{reported, effect}
@@ -29,8 +26,7 @@ use Rattle.method.specs.Calls.Call.{reportTicket, reportPrepared}
 use Rattle.method.proofs.RecordLaws.{never}
 use Rattle.method.proofs.StageLaws.{not-prepared-of-step}
 use Rattle.method.proofs.RowLaws.{ticket-part, reported-same, reported-other, length-reported}
-use Rattle.method.specs.Seen.{IsFree, IsActive, IsCommitted, num, Has, base, tick}
-use Rattle.invariant.specs.Sound.{Sound}
+use Rattle.method.specs.Seen.{IsActive, Has, base, tick}
 use Rattle.invariant.specs.Invariant.{Invariant}
 use Rattle.invariant.proofs.MarkLaws.{Marked, sound-marked}
 use Rattle.invariant.proofs.OrderlyLaws.{orderly-changed}

@@ -1,15 +1,12 @@
 -- A sweep keeps the invariant: it frees committed rows that no active one holds back and that no row that stays has an arrow
 -- to. Assumes nothing.
-use mathlib.Core.Path.{_≡_, refl, sym, ap, subst, _∙_}
+use mathlib.Core.Path.{_≡_, refl, _∙_}
 use mathlib.Core.Bool.{Bool, true, false, not, _&&_, cond}
-use mathlib.Core.List.{List, map}
+use mathlib.Core.List.{List}
 use mathlib.Core.Logic.{_⊎_, inl, inr}
-use Prim.Native.Nat.{ℕ, _<_}
-use native.Mathlib.Omega.{arith}
-use lib.ListN.{length, length-map, List·getD-map}
+use Prim.Native.Nat.{ℕ}
+use lib.ListN.{length-map, List·getD-map}
 use Rattle.graph.specs.Lists.{_∈_}
-use Rattle.graph.specs.Path.{ArrowPath.one}
-use Rattle.graph.specs.Reached.{Reached}
 use Rattle.graph.proofs.TestLaws.{true-or-false, true-not-false}
 use Rattle.graph.proofs.ReachedLaws.{reached-of-next}
 use Rattle.orders.specs.Entries.{Entry}
@@ -19,7 +16,7 @@ use Rattle.method.specs.Records.{freeRow, pastEnd, rowAt, highAt, committed, Go
 use Rattle.method.specs.Slots.{kept, entryOf}
 use Rattle.method.specs.Conditions.{Closed, HeldBack}
 use Rattle.method.specs.Effects.{stays, sweptRow, sweptTable}
-use Rattle.method.proofs.RecordLaws.{never, committed-iff}
+use Rattle.method.proofs.RecordLaws.{committed-iff}
 use Rattle.method.proofs.SlotLaws.{kept-of-place}
 use Rattle.method.proofs.GraphLaws.{stays-iff}
 use Rattle.method.specs.Seen.{IsCommitted}

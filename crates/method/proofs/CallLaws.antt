@@ -82,7 +82,7 @@ unfolding decided
 decided-not-refused t n true k e = never (cc)
 decided-not-refused t n false k e = never (cc)
 
-effect-not-refused : (t : Table) (c : Call) (k : ℕ) → ¬ (effect t c .answer ≡ Answer.Refused k)
+pub effect-not-refused : (t : Table) (c : Call) (k : ℕ) → ¬ (effect t c .answer ≡ Answer.Refused k)
 unfolding effect
 effect-not-refused t (openWith first floors) k e = never (cc)
 effect-not-refused t (begin sites) k e = never (cc)

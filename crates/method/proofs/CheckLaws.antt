@@ -1,34 +1,24 @@
--- A step by the first check that stops it, and a search for a number or a free slot that ends: in a table of 32 slots the place
+-- The first check that stops a call, and a search for a number or a free slot that ends: in a table of 32 slots the place
 -- 32 is none. Assumes nothing.
 use mathlib.Core.Path.{_≡_, _∙_}
 use mathlib.Core.Bool.{Bool, true, false, not}
 use mathlib.Core.List.{List, _∷_}
-use mathlib.Core.Option.{none, some}
+use mathlib.Core.Option.{some}
 use mathlib.Core.Logic.{inl, inr}
 use Prim.Native.Nat.{ℕ, _<_}
 use native.Mathlib.Omega.{arith}
 use lib.ListN.{length}
 use Rattle.graph.specs.Lists.{anyOf}
 use Rattle.graph.proofs.TestLaws.{true-or-false}
-use Rattle.method.specs.declared.Answer.{Answer}
 use Rattle.method.specs.declared.Row.{Row}
 use Rattle.method.specs.declared.Table.{Table}
 use Rattle.method.specs.Records.{isFree, pastEnd}
 use Rattle.method.specs.Slots.{firstAt, hasNumber, slotOf, freeSlot}
 use Rattle.method.specs.Conditions.{unknown, isFull}
-use Rattle.method.specs.Calls.{Call, checks, firstTrue}
-use Rattle.method.specs.Effects.{answered, effect, act, step}
+use Rattle.method.specs.Calls.{firstTrue}
 use Rattle.method.proofs.SlotLaws.{first-found, first-missing}
 
--- a step by the first check that passes, and the first check by those before it
-pub stopped : (t : Table) (c : Call) (k : ℕ) → firstTrue (checks t c) ≡ some k → step t c ≡ answered t (Answer.Refused k)
-unfolding step act
-stopped t c k e = rw e
-
-pub unstopped : (t : Table) (c : Call) → firstTrue (checks t c) ≡ none → step t c ≡ effect t c
-unfolding step act
-unstopped t c e = rw e
-
+-- the first check that passes, by those before it
 pub first-true : (k : ℕ) (b : Bool) (cs : List (ℕ × Bool)) → b ≡ true → firstTrue ((k, b) ∷ cs) ≡ some k
 first-true k b cs e = rw e
 

@@ -1,5 +1,4 @@
--- A loop that looks at one place after the other for the first that passes: what is found from place i on. (For any that
--- passes, see SearchLaws of the graph.)
+-- A loop that looks at one place after the other for the first that passes: what is found from place i on.
 -- Assumes nothing.
 use mathlib.Core.Path.{_≡_, refl}
 use mathlib.Core.Bool.{Bool, true, false, cond, _&&_, _||_}

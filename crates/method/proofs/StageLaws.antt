@@ -14,7 +14,6 @@ use Rattle.method.specs.declared.Stage.{Stage}
 use Rattle.method.specs.declared.Report.{Report}
 use Rattle.method.specs.declared.Step.{Step}
 use Rattle.method.specs.Stages.{firstStage, stepOf, given, reportNo}
-use Rattle.method.proofs.RecordLaws.{never}
 
 -- all of them
 abbrev stages : List Stage

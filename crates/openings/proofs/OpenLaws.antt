@@ -1,35 +1,25 @@
--- What open comes to: its two checks, and the highest tickets, floor by floor. Assumes nothing.
-use mathlib.Core.Path.{_≡_, refl, ap}
+-- What open comes to: its two checks, and the floors one by one. Assumes nothing.
+use mathlib.Core.Path.{_≡_}
 use mathlib.Core.Bool.{true, false}
-use mathlib.Core.List.{List, [], _∷_}
+use mathlib.Core.List.{List, []}
 use mathlib.Core.Logic.{_⊎_, inl, inr}
-use Prim.Native.Nat.{ℕ, zero, suc, _+_, _<_, _≤_}
+use Prim.Native.Nat.{ℕ, _+_, _<_, _≤_}
 use native.Mathlib.Omega.{arith}
 use native.Mathlib.Numerals.{add-one}
-use lib.ListN.{length, getD, set, take}
+use mathlib.Core.Option.{some, none}
+use lib.ListN.{length, getD, drop, drop-of-length-le}
 use lib.Dec.{eqb, ltb}
+use lib.Seq.{drop-cons}
 use borrow.Author.Tests.{eq-eqb, ne-eqb, lt-ltb, le-ltb, eqb-false, ltb-true, ltb-false, eqb-true}
 use Rattle.graph.proofs.TestLaws.{true-or-false, true-not-false}
-use Rattle.method.specs.declared.Ticket.{Ticket}
 use Rattle.method.specs.declared.Table.{Table}
-use Rattle.method.specs.declared.Answer.{Answer}
 use Rattle.method.specs.Conditions.{BadOpening, badOpening}
-use Rattle.method.specs.Calls.{checks}
+use Rattle.method.specs.Calls.{checks, firstTrue}
 use Rattle.method.specs.Calls.Call.{openWith}
 use Rattle.method.specs.Records.{ticket}
-use Rattle.method.specs.Effects.{padded, opened, answered, effect, step}
+use Rattle.cells.specs.Puts.{putHigh, putFloors}
 use Rattle.method.proofs.ConditionLaws.{bad-opening-iff}
-use Rattle.method.proofs.CheckLaws.{stopped, unstopped, first-true, first-false}
-
-next : (k : ℕ) (fs : List ℕ) (i : ℕ) → i < length fs → i < k → set (padded k (take i fs)) i (ticket (getD fs i 0)) ≡ padded k (take (suc i) fs)
-unfolding padded
-next zero fs i h l = absurd (omega arith)
-next (suc k) [] i h l = absurd (omega arith)
-next (suc k) (f ∷ fs) zero h l = refl
-next (suc k) (f ∷ fs) (suc i) h l = ap {B = List Ticket} (λ ts. ticket f ∷ ts) (next k fs i (omega arith) (omega arith))
-
-pub padded-set : (k : ℕ) (fs : List ℕ) (i : ℕ) → i < length fs → i < k → set (padded k (take i fs)) i (ticket (getD fs i 0)) ≡ padded k (take (i + 1) fs)
-padded-set k fs i h l = rw (add-one i) (next k fs i h l)
+use Rattle.method.proofs.CheckLaws.{first-true, first-false}
 
 module _ (n : ℕ) (fs : List ℕ) where
   pub bad-of-none : length fs ≡ 0 → badOpening n fs ≡ true
@@ -56,15 +46,24 @@ module _ (n : ℕ) (fs : List ℕ) where
       some (inr h) = let z = eqb-false n 0 h in omega (arith, z)
 
 module _ (t : Table) (n : ℕ) (fs : List ℕ) where
-  pub open-twice : (t .sites ≡ 0 → ⊥) → step t (openWith n fs) ≡ answered t (Answer.Refused 4)
+  pub open-twice : (t .sites ≡ 0 → ⊥) → firstTrue (checks t (openWith n fs)) ≡ some 4
   unfolding checks
-  open-twice z = stopped t (openWith n fs) 4 (rw (ne-eqb (t .sites) 0 z))
+  open-twice z = rw (ne-eqb (t .sites) 0 z)
 
   module _ (shut : t .sites ≡ 0) where
-    pub open-bad : badOpening n fs ≡ true → step t (openWith n fs) ≡ answered t (Answer.Refused 1)
+    pub open-bad : badOpening n fs ≡ true → firstTrue (checks t (openWith n fs)) ≡ some 1
     unfolding checks
-    open-bad e = stopped t (openWith n fs) 1 (rw (eq-eqb (t .sites) 0 shut) (first-true 1 (badOpening n fs) [] e))
+    open-bad e = rw (eq-eqb (t .sites) 0 shut) (first-true 1 (badOpening n fs) [] e)
 
-    pub open-good : badOpening n fs ≡ false → step t (openWith n fs) ≡ answered (opened n fs) Answer.Done
-    unfolding checks effect
-    open-good e = unstopped t (openWith n fs) (rw (eq-eqb (t .sites) 0 shut) (first-false 1 (badOpening n fs) [] e))
+    pub open-good : badOpening n fs ≡ false → firstTrue (checks t (openWith n fs)) ≡ none
+    unfolding checks
+    open-good e = rw (eq-eqb (t .sites) 0 shut) (first-false 1 (badOpening n fs) [] e)
+
+-- the floors from site i on, one of them laid
+pub floors-step : (c fs : List ℕ) (i : ℕ) → i < length fs → putFloors c i (drop i fs) ≡ putFloors (putHigh c i (ticket (getD fs i 0))) (i + 1) (drop (i + 1) fs)
+unfolding putFloors
+floors-step c fs i h = rw (add-one i, drop-cons fs i 0 h)
+
+pub floors-end : (c fs : List ℕ) (i : ℕ) → length fs ≤ i → putFloors c i (drop i fs) ≡ c
+unfolding putFloors
+floors-end c fs i h = rw (drop-of-length-le fs h)

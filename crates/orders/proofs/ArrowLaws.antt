@@ -1,18 +1,18 @@
 -- The test of an arrow finds exactly the arrows, and the laws of graphs at rows of tickets. Assumes nothing.
 use mathlib.Core.Path.{_≡_, refl}
-use mathlib.Core.Bool.{Bool, true, false, _&&_, false≢true, and-false}
-use mathlib.Core.List.{List, [], _∷_, map}
+use mathlib.Core.Bool.{Bool, true, false, false≢true, and-false}
+use mathlib.Core.List.{List, [], _∷_}
 use mathlib.Core.Logic.{_↔_, _⊎_, inl, inr}
 use Prim.Native.Nat.{ℕ, zero, suc, _<_}
 use native.Mathlib.Omega.{arith}
 use lib.Dec.{ltb, eqb}
 use borrow.Author.Tests.{ltb-true, lt-ltb, le-ltb, eqb-true, eq-eqb}
-use Rattle.graph.specs.Path.{Cycle, Holds}
+use Rattle.graph.specs.Path.{Cycle}
 use Rattle.graph.specs.Acyclic.{acyclic}
 use Rattle.graph.proofs.TestLaws.{either-of-or, both-of-and, or-of-left, or-of-right, and-of-both, true-not-false}
 use Rattle.graph.proofs.PathLaws.{cycle-of-weaker}
 use Rattle.graph.proofs.AcyclicLaws.{acyclic-iff}
-use Rattle.orders.specs.Arrow.{Tickets, ticketAt, Before, Arrow, anySite, beforeb, arrowb}
+use Rattle.orders.specs.Arrow.{Tickets, ticketAt, Arrow, anySite, beforeb, arrowb}
 use Rattle.orders.specs.Good.{sameb}
 
 -- a test of two tickets that fails where one of them is 0 passes at some site exactly if `anySite` says so

@@ -1,6 +1,6 @@
 -- A flat list and its rows determine each other: which row stands at a place, and back. Assumes nothing.
 use mathlib.Core.Path.{_≡_, refl, sym, ap, _∙_}
-use mathlib.Core.List.{List, [], _∷_, _++_, append-assoc, List·Memᴰ·head as here, List·Memᴰ·tail as there, List·Memᴰ·not-nil}
+use mathlib.Core.List.{List, [], _∷_, _++_, append-assoc, List·Memᴰ·head as here, List·Memᴰ·tail as there}
 use Prim.Native.Nat.{ℕ, zero, suc, _+_, _*_, _/_, _%_, _<_, _≤_}
 use native.Mathlib.Omega.{arith}
 use native.Mathlib.Nat.{div-add-mod', not-suc-le-zero}

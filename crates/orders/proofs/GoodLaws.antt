@@ -1,19 +1,19 @@
 -- The test of a ticket table passes exactly the good ones. Assumes nothing.
 use mathlib.Core.Path.{_≡_, refl, sym, ap}
-use mathlib.Core.Bool.{Bool, true, false, not, _&&_, _||_}
-use mathlib.Core.List.{List, [], _∷_, map, Memᴰ·map, Memᴰ·of-map, Memᴰ·cast}
+use mathlib.Core.Bool.{Bool, true, false, not, _&&_}
+use mathlib.Core.List.{List, [], _∷_, map, Memᴰ·map, Memᴰ·of-map}
 use mathlib.Core.Logic.{_⊎_, inl, inr}
 use Prim.Native.Nat.{ℕ, zero, suc, _<_, _%_}
 use native.Mathlib.Omega.{arith}
 use lib.Dec.{eqb, leb}
 use lib.ListN.{length}
-use borrow.Author.Tests.{eqb-true, eqb-false, eq-eqb, leb-true, le-leb}
-use Rattle.graph.specs.Lists.{_∈_, At, Once, anyOf}
+use borrow.Author.Tests.{eqb-true, eq-eqb, leb-true, le-leb}
+use Rattle.graph.specs.Lists.{_∈_, At, anyOf}
 use Rattle.graph.proofs.TestLaws.{true-or-false, true-not-false, false-of-not, not-of-false, false-of-not-true, both-of-and, and-of-both, either-of-or, or-of-left, or-of-right}
 use Rattle.graph.proofs.MemberLaws.{any-of-member, member-of-any}
 use Rattle.graph.proofs.PlaceLaws.{at-of-member, member-of-at}
 use Rattle.graph.proofs.CountLaws.{once-of-cons, once-of-tail, new-of-once}
-use Rattle.orders.specs.Arrow.{Tickets, ticketAt, anySite}
+use Rattle.orders.specs.Arrow.{ticketAt, anySite}
 use Rattle.orders.specs.Entries.{Entry, numberOf, entriesIn}
 use Rattle.orders.specs.Good.{Apart, GoodRows, Clash, sameb, clash, apartb, goodb}
 use Rattle.orders.proofs.ArrowLaws.{anySite→site, site→anySite, sameb→same, same→sameb}

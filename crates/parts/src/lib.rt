@@ -6,12 +6,12 @@ ghost use Prim.Native.Nat.{max};
 ghost use lib.ListN.{length};
 ghost use Rattle.graph.specs.Lists.{keep};
 ghost use Rattle.sites.specs.Sites.{sitesOf};
-ghost use Rattle.method.specs.Records.{ticket, isPrepared, partAt};
+ghost use Rattle.method.specs.Records.{ticket, isPrepared, partAt, rowAt};
 ghost use Rattle.method.specs.Conditions.{notPrepared};
-ghost use Rattle.method.specs.Effects.{raised as raisedTickets};
+ghost use Rattle.cells.specs.Layout.{tableFrom};
+ghost use Rattle.cells.specs.After.{cellsRaised};
 ghost use Rattle.parts.specs.Counted.{counted};
-use method::Row;
-use method::SITES;
+use cells::Cells;
 use method::Stage;
 use method::Ticket;
 
@@ -27,15 +27,14 @@ fn counts(g: Stage) -> u32
 }
 
 // How many of its sites are prepared.
-fn prepared_sites(row: Row) -> u32
-    ensures answer { λ r. ⌜ r ≡ length (keep (λ s. isPrepared (partAt row s .stage)) (sitesOf (row .sites))) ⌝ }
+fn prepared_sites(c: &Cells, i: usize) -> u32
+    ensures answer { λ r. ⌜ r ≡ length (keep (λ s. isPrepared (partAt (rowAt (tableFrom (now (c .entry))) i) s .stage)) (sitesOf (rowAt (tableFrom (now (c .entry))) i .sites))) ⌝ }
 {
     let mut n: u32 = 0;
-    let mut left = row.sites;
+    let mut left = cells::sites_at(c, i);
     while left != 0 {
         let s = u8::trailing_zeros(left) as usize;
-        let p = row.parts[s];
-        let g = p.stage;
+        let g = cells::stage_at(c, i, s);
         n += counts(g);
         left = left & (left - 1);
     }
@@ -43,15 +42,14 @@ fn prepared_sites(row: Row) -> u32
 }
 
 // Active, and as many sites prepared as it uses.
-pub fn is_prepared(row: Row) -> bool
-    ensures answer { λ r. ⌜ r ≡ not (notPrepared row) ⌝ }
+pub fn is_prepared(c: &Cells, i: usize) -> bool
+    ensures answer { λ r. ⌜ r ≡ not (notPrepared (rowAt (tableFrom (now (c .entry))) i)) ⌝ }
 {
-    let state = row.state;
-    if !records::is_active(state) {
+    if !cells::is_active(c, i) {
         return false;
     }
-    let x = row.sites;
-    prepared_sites(row) == sites::used(x)
+    let x = cells::sites_at(c, i);
+    prepared_sites(c, i) == sites::used(x)
 }
 
 fn higher(a: Ticket, b: Ticket) -> Ticket
@@ -60,19 +58,17 @@ fn higher(a: Ticket, b: Ticket) -> Ticket
     if a.0 < b.0 { b } else { a }
 }
 
-// The highest tickets, raised at the row's sites to its own.
-pub fn raised(high: [Ticket; SITES], row: Row) -> [Ticket; SITES]
-    ensures answer { λ r. ⌜ r ≡ raisedTickets row (sitesOf (row .sites)) high ⌝ }
+// The highest tickets, raised at the slot's sites to its own.
+pub fn raise(c: &mut Cells, i: usize)
+    ensures cells { λ _. ⌜ now (c .exit) ≡ cellsRaised (rowAt (tableFrom (now (c .entry))) i) (sitesOf (rowAt (tableFrom (now (c .entry))) i .sites)) (now (c .entry)) ⌝ }
 {
-    let mut tops = high;
-    let mut left = row.sites;
+    let mut left = cells::sites_at(c, i);
     while left != 0 {
         let s = u8::trailing_zeros(left) as usize;
-        let p = row.parts[s];
-        let k = p.ticket;
-        let h = higher(tops[s], k);
-        tops[s] = h;
+        let k = cells::ticket_at(c, i, s);
+        let h = cells::high_at(c, s);
+        let top = higher(h, k);
+        cells::put_high(c, s, top);
         left = left & (left - 1);
     }
-    tops
 }

@@ -10,7 +10,7 @@ use mathlib.Core.Option.{Option, none, some}
 use Rattle.wire.specs.Message.{Message}
 use Rattle.wire.specs.Body.{messageOf}
 use Rattle.frames.specs.Stream.{Stream, ended, cutOff, framed}
-use Rattle.lines.specs.Line.{Line, refusedLine}
+use Rattle.lines.specs.Line.{refusedLine}
 use Rattle.method.specs.Slots.{keptEntries, keptFlat}
 use Rattle.method.specs.Calls.{callRefusals}
 use Rattle.runs.specs.Run.{Run, Run.call, after}

@@ -27,17 +27,19 @@ use Rattle.frames.proofs.StreamLaws.{stream-of-nothing, stream-of-cut, stream-o
 use Rattle.wire.proofs.MeaningLaws.{body-means, body-of-means, read-means, read-of-means}
 use Rattle.frames.proofs.AnswerLaws.{frame-means, frame-of-means}
 use Rattle.sending.proofs.MeaningLaws.{write-means, write-of-means}
-use Rattle.lines.specs.Line.{Line, refusedLine}
+use Rattle.lines.specs.Line.{refusedLine}
 use Rattle.lines.proofs.LineLaws.{one-line}
 use Rattle.lines.proofs.ReadingLaws.{outputBytes-injective}
 use Rattle.method.specs.declared.Table as method
 use Rattle.method.specs.Calls.{Call}
 use Rattle.method.specs.Calls.Call.{openWith, begin, reportTicket, reportPrepared, abort, decide, forget, sweep}
-use Rattle.method.specs.Effects.{step}
 use Rattle.method.proofs.RecordLaws.{never}
-use Rattle.method.proofs.CallLaws.{refused-keeps as step-keeps, refused-exactly as step-refused}
+use Rattle.method.proofs.CallLaws.{refused-exactly as step-refused}
 use Rattle.runs.proofs.FollowLaws.{follows, unknown-iff-over}
-use Rattle.table.specs.Shut.{shutTable}
+use Rattle.cells.specs.Layout.{tableFrom}
+use Rattle.cells.specs.After.{cellsAfterAll}
+use Rattle.cells.proofs.AfterLaws.{refused-cells}
+use Rattle.table.specs.Shut.{shutCells, held}
 use Rattle.replies.specs.Desk.{Asks, Asks.calls, asksFor, replyTo, desk, deskBody}
 use Rattle.turns.specs.Lines.{linesOf}
 use Rattle.turns.specs.Turn.{turn}
@@ -48,7 +50,7 @@ use Rattle.promises.proofs.AnsweredLaws.{step-answered}
 use Rattle.replies.proofs.RefusalLaws.{body-keeps, ten-iff, desk-of-none, one-of-closed, four-of-open}
 
 pub answered : Answered
-answered t c a u (e, f) = rw e (step-answered (t .held) c)
+answered t c a u g = rw (g .0) (step-answered (held t) c)
 
 -- refusals change nothing
 order-keeps : (flat : List ℕ) (place : ℕ) (out : List ℕ) (r : Reply) (after : List ℕ) → Written flat place out r after → (k : ℕ) → r ≡ Reply.refused k → after ≡ out
@@ -63,12 +65,17 @@ message-keeps b out place WriteAnswer.TooLong k e = refl
 message-keeps b out place WriteAnswer.Wrong k e = refl
 message-keeps b out place WriteAnswer.NoRoom k e = refl
 
+no-calls : (c : List ℕ) → cellsAfterAll c [] ≡ c
+unfolding cellsAfterAll
+no-calls c = refl
+
 pub refused-keeps : RefusedKeeps
 refused-keeps = record {
-  calls = λ t c a u g k e. g .1 ∙ ap shutTable (step-keeps (t .held) c k (sym (g .0) ∙ e));
+  calls = λ t c a u g k e. g .1 .0 ∙ ap shutCells (refused-cells (t .cells) c k (sym (g .0) ∙ e));
+  cells = λ c x a d g k e. g .1 .0 ∙ refused-cells c x k (sym (g .0) ∙ e);
   orders = λ flat place out r after g k e. order-keeps flat place out _ after (rw (g .1) (write-result flat place out)) k (sym (g .0) ∙ e);
   messages = λ b out place r after g k e. g .1 ∙ message-keeps b out place (writeAnswer b out place) k (rw (g .0) at e);
-  roomless = λ t b out place r after g h. let e = lt-leb (place + 358) (length out) h in (g .0 ∙ rw e, g .1 ∙ rw e, g .2 ∙ rw e);
+  roomless = λ c b out place d n after g h. let e = lt-leb (place + 358) (length out) h in (g .0 ∙ rw e (no-calls c), g .1 .1 .0 ∙ rw e, g .1 .1 .1 ∙ rw e);
   served = λ t b k. body-keeps t k b;
 }
 
@@ -78,7 +85,7 @@ exactly Means r x h f = (λ e. rw e h, λ m. sym (f x m))
 
 pub refused-exactly : RefusedExactly
 refused-exactly = record {
-  calls = λ t c a u g k. rw (g .0) (step-refused (t .held) c k);
+  calls = λ t c a u g k. rw (g .0) (step-refused (held t) c k);
   unknown = unknown-iff-over;
   usedUp = λ r first floors o. let e = follows r .sequence first floors o in (λ u. sym e ∙ u, λ u. e ∙ u);
   bodies = λ b r w g x. rw g (exactly (BodyMeans b) (bodyAnswer (messageOf b)) x (body-means b w) (body-of-means b w));
@@ -143,7 +150,7 @@ lines = record {
   text = one-line;
   lines = outputBytes-injective;
   pieces = λ ps t. pieces-whole ps t [];
-  turns = λ t input last out r after more g h.
-      rw (g .0, g .1, g .2, g .3, g .4, front out (turn last (t .held) (length out) (streamOf input) .written)) (turn-rest last (t .held) (length out) input more h);
-  prompt = λ t input last out r after g e. rw (g .1, g .2) (turn-stops last (t .held) (length out) input (sym (g .3) ∙ e));
+  turns = λ c input last out d r after more g h.
+      rw (g .1, g .2, g .3, g .4, g .5, front out (turn last (tableFrom c) (length out) (streamOf input) .written)) (turn-rest last (tableFrom c) (length out) input more h);
+  prompt = λ c input last out d r after g e. rw (g .2, g .3) (turn-stops last (tableFrom c) (length out) input (sym (g .4) ∙ e));
 }

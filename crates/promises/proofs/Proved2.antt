@@ -20,6 +20,8 @@ use Rattle.sending.proofs.MeaningLaws.{write-means}
 use Rattle.sending.proofs.RoundLaws.{read-of-written}
 use Rattle.frames.proofs.FrameLaws.{next-of-means, means-of-next}
 use Rattle.frames.proofs.StreamLaws.{bytes-of-stream, well-formed-stream, one-stream}
+use Rattle.cells.proofs.TableLaws.{highs-of-cells}
+use Rattle.table.specs.Shut.{held}
 use Rattle.method.specs.declared.Ticket.{Ticket}
 use Rattle.method.specs.declared.State.{State}
 use Rattle.method.specs.declared.Row.{Row}
@@ -94,7 +96,7 @@ decision t n e nc nu nr = elim (step-decides t n (nc, (nu, (nr, tt)))) [
 ]
 
 pub commits-exactly : CommitsExactly
-commits-exactly t n a u (p, q) e nc nu nr = rw (p, q) (decision (t .held) n e nc nu nr)
+commits-exactly t n a u g nc nu nr = rw (g .0, g .1 .1) (decision (held t) n (highs-of-cells (t .cells)) nc nu nr)
 
 pub slot-found : SlotFound
 slot-found t n nu = let f = found t n nu in (f .used, f .named)
@@ -109,8 +111,8 @@ forget-frees t n e = go (step-goes t (forget n))
 
 pub forgets-exactly : ForgetsExactly
 forgets-exactly = record {
-  rule = λ t n a u g nc nu cm. rw (g .0) (forget-done-iff (t .held) n nc nu cm);
-  frees = λ t n a u g e. rw (g .1) (forget-frees (t .held) n (rw (g .0) at e));
+  rule = λ t n a u g nc nu cm. rw (g .0) (forget-done-iff (held t) n nc nu cm);
+  frees = λ t n a u g e. rw (g .1 .1) (forget-frees (held t) n (rw (g .0) at e));
   paper = forgotten-iff-paper;
 }
 
@@ -146,7 +148,7 @@ swept-is t nc = ap (λ (a : Answered). a .table) (sweep-is t nc)
 
 pub sweeps-exactly : SweepsExactly
 sweeps-exactly = record {
-  every = λ t a u g nc. rw (g .0, g .1) (step-sweeps (t .held) nc);
+  every = λ t a u g nc. rw (g .0, g .1 .1) (step-sweeps (held t) nc);
   forgets = λ r nc. let (ns, f) = forget-all (after r) (history r) (invariant-run r) nc in (ns, rw (swept-is (after r) nc) f);
   none = λ r nc. rw (swept-is (after r) nc) (none-to-forget (after r));
 }

@@ -29,18 +29,24 @@ use Rattle.lines.specs.declared.Words.{Words}
 use Rattle.method.specs.declared.Answer.{Answer}
 use Rattle.method.specs.Calls.{Call}
 use Rattle.table.specs.declared.Table.{Table}
-use Rattle.table.specs.Shut.{shutTable, answerTo, tableAfter}
-use Rattle.queries.specs.Said.{spokenOf}
-use Rattle.replies.specs.Desk.{deskBody}
-use Rattle.replies.specs.declared.Replied.{Replied}
-use Rattle.desk.specs.Served.{servedTable, servedCount, servedOut}
-use Rattle.desk.specs.declared.Served.{Served}
+use Rattle.method.specs.Effects.{step}
+use Rattle.cells.specs.Layout.{tableFrom}
+use Rattle.cells.specs.After.{cellsAfter, cellsAfterAll}
+use Rattle.table.specs.Shut.{held, answerTo, tableAfter}
+use Rattle.replies.specs.Desk.{deskBody, callsOf}
+use Rattle.replies.specs.declared.Due.{Due}
+use Rattle.replies.specs.Due.{dueFor}
+use Rattle.desk.specs.Served.{servedCalls, servedTable, servedCount, servedOut}
 use Rattle.turns.specs.declared.Turn.{Turn}
 use Rattle.turns.specs.Turn.{Turned, turn}
 
--- the eight calls of `table`, the eight of `lent` and the eight that lend: the answer a, and the table u that is left
+-- the eight calls of `table` and the eight of `lent`: the answer a, and the table u that is left
 abbrev pub CallGives : Table → Call → Answer → Table → Type 0
-CallGives t c a u = (a ≡ answerTo t c) × (u ≡ tableAfter t c)
+CallGives t c a u = (a ≡ answerTo t c) × ((u ≡ tableAfter t c) × (held u ≡ step (held t) c .table))
+
+-- the same on bare cells, `table::plain` and `lent::plain`: the answer a, and the cells d that are left
+abbrev pub PlainGives : List ℕ → Call → Answer → List ℕ → Type 0
+PlainGives c x a d = (a ≡ step (tableFrom c) x .answer) × ((d ≡ cellsAfter c x) × (tableFrom d ≡ step (tableFrom c) x .table))
 
 -- checker::check(rows, order); ccheck::order_check(rows, order), on bytes
 abbrev pub CheckGives : List ℕ → List ℕ → CheckAnswer → Type 0
@@ -75,17 +81,18 @@ abbrev pub OrderGives : List ℕ → ℕ → List ℕ → ℕ → ℕ → List �
 OrderGives numbers count out place n after =
     (n ≡ writtenCount out place (lineBytes (order (take count numbers)))) × (after ≡ stored out place (lineBytes (order (take count numbers))))
 
--- replies::reply(t, body)
-abbrev pub ReplyGives : Table → List ℕ → Replied → Type 0
-ReplyGives t b r = (r .table ≡ shutTable (deskBody (t .held) b .0)) × (r .spoken ≡ spokenOf (deskBody (t .held) b .1))
+-- replies::reply(c, body): the cells d that are left, and what is due
+abbrev pub ReplyGives : List ℕ → List ℕ → List ℕ → Due → Type 0
+ReplyGives c b d r = (d ≡ cellsAfterAll c (callsOf b)) × ((tableFrom d ≡ deskBody (tableFrom c) b .0) × (r ≡ dueFor (tableFrom c) b))
 
--- desk::serve(t, body, out, place)
-abbrev pub ServeGives : Table → List ℕ → List ℕ → ℕ → Served → List ℕ → Type 0
-ServeGives t b out place r after =
-    (r .table ≡ shutTable (servedTable (t .held) b out place)) × (r .count ≡ servedCount (t .held) b out place) × (after ≡ servedOut (t .held) b out place)
+-- desk::serve(c, body, out, place): the cells, the count of bytes, and the buffer afterwards
+abbrev pub ServeGives : List ℕ → List ℕ → List ℕ → ℕ → List ℕ → ℕ → List ℕ → Type 0
+ServeGives c b out place d n after =
+    (d ≡ cellsAfterAll c (servedCalls b out place))
+    × ((tableFrom d ≡ servedTable (tableFrom c) b out place) × ((n ≡ servedCount (tableFrom c) b out place) × (after ≡ servedOut (tableFrom c) b out place)))
 
--- turns::take_turn(t, input, last, out)
-abbrev pub TurnGives : Table → List ℕ → Bool → List ℕ → Turn → List ℕ → Type 0
-TurnGives t input last out r after =
-    let x : Turned = turn last (t .held) (length out) (streamOf input) in
-    (r .table ≡ shutTable (x .table)) × (r .used ≡ x .used) × (r .written ≡ length (x .written)) × (r .over ≡ x .over) × (after ≡ laid out 0 (x .written))
+-- turns::take_turn(c, input, last, out)
+abbrev pub TurnGives : List ℕ → List ℕ → Bool → List ℕ → List ℕ → Turn → List ℕ → Type 0
+TurnGives c input last out d r after =
+    let x : Turned = turn last (tableFrom c) (length out) (streamOf input) in
+    (d ≡ cellsAfterAll c (x .calls)) × (tableFrom d ≡ x .table) × (r .used ≡ x .used) × (r .written ≡ length (x .written)) × (r .over ≡ x .over) × (after ≡ laid out 0 (x .written))

@@ -31,13 +31,14 @@ use Rattle.method.specs.Calls.{Call, rules, FirstHolds}
 use Rattle.method.specs.Calls.Call.{openWith, begin, reportTicket, reportPrepared, abort, decide, forget, sweep}
 use Rattle.method.specs.Effects.{step}
 use Rattle.runs.specs.Run.{Run, after, Happened, Opens, BegunIn, Over, begins}
+use Rattle.cells.specs.Layout.{tableFrom}
 use Rattle.table.specs.declared.Table.{Table}
-use Rattle.desk.specs.declared.Served.{Served}
+use Rattle.table.specs.Shut.{held}
 use Rattle.replies.specs.Desk.{answerLine, deskBody}
 use Rattle.turns.specs.declared.Turn.{Turn}
 use Rattle.turns.specs.Lines.{linesOf}
 use Rattle.turns.specs.Pieces.{joined, inPieces}
-use Rattle.promises.specs.Contracts.{CallGives, WriteGives, BodyGives, FrameGives, ReadGives, MessageGives, ServeGives, TurnGives}
+use Rattle.promises.specs.Contracts.{CallGives, PlainGives, WriteGives, BodyGives, FrameGives, ReadGives, MessageGives, ServeGives, TurnGives}
 
 -- a call's row in RULES, Calls: the refusals that it can get, after 1 for a closed table, and what it is answered when it is done
 abbrev pub refusals : Call → List ℕ
@@ -62,23 +63,25 @@ Done t sweep a = (k : ℕ) × (a ≡ Answer.Swept k)
 
 -- every call on every table is answered by its own row
 abbrev pub Answered : Type 0
-Answered = (t : Table) (c : Call) (a : Answer) (u : Table) → CallGives t c a u → Done (t .held) c a ⊎ ((k : ℕ) × (k ∈ refusals c) × (a ≡ Answer.Refused k))
+Answered = (t : Table) (c : Call) (a : Answer) (u : Table) → CallGives t c a u → Done (held t) c a ⊎ ((k : ℕ) × (k ∈ refusals c) × (a ≡ Answer.Refused k))
 
 -- a refusal leaves everything as it was: the table of a call, the buffer of the order's writer and of the message's
 pub record RefusedKeeps : Type 0 where
   pub calls : (t : Table) (c : Call) (a : Answer) (u : Table) → CallGives t c a u → (k : ℕ) → a ≡ Answer.Refused k → u ≡ t
   pub orders : (flat : List ℕ) (place : ℕ) (out : List ℕ) (r : WriteAnswer) (after : List ℕ) → WriteGives flat place out r after → (k : ℕ) → writeReply r ≡ Reply.refused k → after ≡ out
   pub messages : (b out : List ℕ) (place : ℕ) (r : messages.WriteAnswer) (after : List ℕ) → MessageGives b out place r after → (k : ℕ) → writeRefusal r ≡ some k → after ≡ out
+  -- the same on bare cells: every one of them
+  pub cells : (c : List ℕ) (x : Call) (a : Answer) (d : List ℕ) → PlainGives c x a d → (k : ℕ) → a ≡ Answer.Refused k → d ≡ c
   -- where the longest line would not fit nothing is served
-  pub roomless : (t : Table) (b out : List ℕ) (place : ℕ) (r : Served) (after : List ℕ) → ServeGives t b out place r after → length out < place + 358
-      → (r .table ≡ t) × (r .count ≡ 0) × (after ≡ out)
+  pub roomless : (c b out : List ℕ) (place : ℕ) (d : List ℕ) (n : ℕ) (after : List ℕ) → ServeGives c b out place d n after → length out < place + 358
+      → (d ≡ c) × (n ≡ 0) × (after ≡ out)
   -- and a message of the service that is answered with a refusal leaves its table
   pub served : (t : method.Table) (b : List ℕ) (k : ℕ) → deskBody t b .1 ≡ refusedLine k → deskBody t b .0 ≡ t
 
 -- each refusal is given exactly when it should be. Those of the orders (13, 14, 12) and of the C call are in Demand3.
 pub record RefusedExactly : Type 0 where
   -- a call is refused with k exactly if k's condition holds and no earlier one of its row does
-  pub calls : (t : Table) (c : Call) (a : Answer) (u : Table) → CallGives t c a u → (k : ℕ) → (a ≡ Answer.Refused k) ↔ FirstHolds (rules (t .held) c) k
+  pub calls : (t : Table) (c : Call) (a : Answer) (u : Table) → CallGives t c a u → (k : ℕ) → (a ≡ Answer.Refused k) ↔ FirstHolds (rules (held t) c) k
   -- 2 and 8 read off the run: never begun or over by now; the last number was given
   pub unknown : (r : Run) (n : ℕ) → Unknown (after r) n ↔ ((¬ BegunIn r n) ⊎ Over r n)
   pub usedUp : (r : Run) (first : ℕ) (floors : List ℕ) → Happened (Opens first floors) r → UsedUp (after r) ↔ (first - 1 + begins r ≡ 4294967295)
@@ -129,8 +132,8 @@ pub record Lines : Type 0 where
   pub pieces : (ps : List (List ℕ × ℕ)) (t : method.Table) → inPieces ps t [] ≡ outputBytes (linesFor t (joined ps))
   -- the same of what one turn gives, with what may still come: it wrote the first bytes of all that is to be written, and the table and
   -- the input that it leaves are answered with the others
-  pub turns : (t : Table) (input : List ℕ) (last : Bool) (out : List ℕ) (r : Turn) (after more : List ℕ) → TurnGives t input last out r after → (last ≡ true → more ≡ [])
-      → outputBytes (linesFor (t .held) (input ++ more)) ≡ take (r .written) after ++ cond (r .over) [] (outputBytes (linesFor (r .table .held) (drop (r .used) input ++ more)))
+  pub turns : (c input : List ℕ) (last : Bool) (out d : List ℕ) (r : Turn) (after more : List ℕ) → TurnGives c input last out d r after → (last ≡ true → more ≡ [])
+      → outputBytes (linesFor (tableFrom c) (input ++ more)) ≡ take (r .written) after ++ cond (r .over) [] (outputBytes (linesFor (tableFrom d) (drop (r .used) input ++ more)))
   -- and it stops only where the longest line might not fit, or no whole message is left
-  pub prompt : (t : Table) (input : List ℕ) (last : Bool) (out : List ℕ) (r : Turn) (after : List ℕ) → TurnGives t input last out r after → r .over ≡ false
+  pub prompt : (c input : List ℕ) (last : Bool) (out d : List ℕ) (r : Turn) (after : List ℕ) → TurnGives c input last out d r after → r .over ≡ false
       → (length out < r .written + 358) ⊎ ((drop (r .used) input ≡ []) ⊎ (Cut (drop (r .used) input) × (last ≡ false)))

@@ -31,7 +31,8 @@ use Rattle.wire.specs.Body.{messageOf}
 use Rattle.frames.specs.Frame.{Next, frameOf, nextFrame}
 use Rattle.frames.specs.Stream.{Stream, streamOf, bytesOf, WellFormed}
 use Rattle.endian.specs.Places.{Below}
-use Rattle.table.specs.declared.Table as held
+use Rattle.table.specs.declared.Table as callers
+use Rattle.table.specs.Shut.{held}
 use Rattle.promises.specs.Contracts.{CallGives, ReadGives, MessageGives}
 
 -- after every run of calls from the closed table on, each thing that the table holds is what was called and answered says, and stands
@@ -76,10 +77,10 @@ pub data Decision (t : Table) (n : ℕ) (a : Answer) (u : Table) : Type 0 where
   commits : ¬ Cycle Goes (rowOfNumber t n ∷ kept t) → a ≡ Answer.Commit (number n) → CommitsRow t u (slotOf t n) (rowOfNumber t n) → Decision t n a u
   cycles : Cycle Goes (rowOfNumber t n ∷ kept t) → a ≡ Answer.Cycle (number n) → Frees t u (slotOf t n) → Decision t n a u
 
--- on every table, so at every decision. A table has eight highest tickets.
+-- on every table, so at every decision
 abbrev pub CommitsExactly : Type 0
-CommitsExactly = (t : held.Table) (n : ℕ) (a : Answer) (u : held.Table) → CallGives t (decide n) a u
-    → length (t .held .high) ≡ 8 → ¬ Closed (t .held) → ¬ Unknown (t .held) n → ¬ NotPrepared (rowOfNumber (t .held) n) → Decision (t .held) n a (u .held)
+CommitsExactly = (t : callers.Table) (n : ℕ) (a : Answer) (u : callers.Table) → CallGives t (decide n) a u
+    → ¬ Closed (held t) → ¬ Unknown (held t) n → ¬ NotPrepared (rowOfNumber (held t) n) → Decision (held t) n a (held u)
 
 -- where the slot of a known number is, which the above speak of
 abbrev pub SlotFound : Type 0
@@ -87,10 +88,10 @@ SlotFound = (t : Table) (n : ℕ) → ¬ Unknown t n → (rowOfNumber t n .state
 
 pub record ForgetsExactly : Type 0 where
   -- on every table: by RULES, Forgetting
-  pub rule : (t : held.Table) (n : ℕ) (a : Answer) (u : held.Table) → CallGives t (forget n) a u
-      → ¬ Closed (t .held) → ¬ Unknown (t .held) n → rowOfNumber (t .held) n .state ≡ State.Committed
-      → (a ≡ Answer.Done) ↔ ((¬ HasPred (t .held) (rowOfNumber (t .held) n)) × (¬ HeldBack (t .held) (rowOfNumber (t .held) n)))
-  pub frees : (t : held.Table) (n : ℕ) (a : Answer) (u : held.Table) → CallGives t (forget n) a u → a ≡ Answer.Done → Frees (t .held) (u .held) (slotOf (t .held) n)
+  pub rule : (t : callers.Table) (n : ℕ) (a : Answer) (u : callers.Table) → CallGives t (forget n) a u
+      → ¬ Closed (held t) → ¬ Unknown (held t) n → rowOfNumber (held t) n .state ≡ State.Committed
+      → (a ≡ Answer.Done) ↔ ((¬ HasPred (held t) (rowOfNumber (held t) n)) × (¬ HeldBack (held t) (rowOfNumber (held t) n)))
+  pub frees : (t : callers.Table) (n : ℕ) (a : Answer) (u : callers.Table) → CallGives t (forget n) a u → a ≡ Answer.Done → Frees (held t) (held u) (slotOf (held t) n)
   -- after every run: in the paper's words (Georgakopoulos, Rusinkiewicz and Sheth, Lemma 1). No kept one has an arrow to it, and whoever
   -- was active when it committed is committed or over by now.
   pub paper : (r : Run) (n : ℕ) → Kept (after r) n
@@ -109,7 +110,7 @@ pub record Sweeps (t : Table) (a : Answer) (u : Table) : Type 0 where
   pub count : (k : ℕ) × (a ≡ Answer.Swept k) × (freeSlots (u .rows) ≡ freeSlots (t .rows) + k)
 
 pub record SweepsExactly : Type 0 where
-  pub every : (t : held.Table) (a : Answer) (u : held.Table) → CallGives t sweep a u → ¬ Closed (t .held) → Sweeps (t .held) a (u .held)
+  pub every : (t : callers.Table) (a : Answer) (u : callers.Table) → CallGives t sweep a u → ¬ Closed (held t) → Sweeps (held t) a (held u)
   -- after every run: forgets one by one, each accepted, give the same table, and then no forget is accepted
   pub forgets : (r : Run) → ¬ Closed (after r) → (ns : List ℕ) × ForgetAll (after r) ns (step (after r) sweep .table)
   pub none : (r : Run) → ¬ Closed (after r) → NoneToForget (step (after r) sweep .table)

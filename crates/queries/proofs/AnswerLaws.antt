@@ -1,12 +1,12 @@
 -- What is said of an order and of a proposal, from what the writer and the check answered. Assumes nothing.
-use mathlib.Core.Path.{_≡_, refl, ap, _∙_}
+use mathlib.Core.Path.{_≡_, refl, sym, ap, _∙_}
 use mathlib.Core.Bool.{Bool, true, false, cond}
 use mathlib.Core.List.{List}
 use Prim.Native.Nat.{ℕ, _+_, _≤_}
 use native.Mathlib.Omega.{arith}
 use lib.Dec.{ltb}
 use lib.ListN.{length}
-use borrow.Author.Tests.{le-ltb}
+use borrow.Author.Tests.{le-ltb, eq-eqb, ne-eqb}
 use Rattle.endian.specs.Laid.{laid}
 use Rattle.graph.specs.Acyclic.{acyclic}
 use Rattle.graph.specs.Order.{greedy}
@@ -20,9 +20,7 @@ use Rattle.orders.specs.Reply.{Reply}
 use Rattle.orders.specs.Write.{orderWritten, writeResult}
 use Rattle.orders.proofs.EntriesLaws.{length-entriesIn}
 use Rattle.method.specs.declared.Table.{Table}
-use Rattle.method.specs.Conditions.{isClosed}
 use Rattle.queries.specs.declared.Said.{Said}
-use Rattle.queries.specs.declared.Spoken.{Spoken}
 use Rattle.queries.specs.Queries.{orderLine, proposalLine, ifOpen}
 use Rattle.queries.specs.Said.{saidOf, noNumbers, numbersFor, spoken, spokenOf, replySaid}
 use Rattle.queries.proofs.SaidLaws.{line-of-words}
@@ -72,9 +70,10 @@ module _ (flat : List ℕ) (x : Reply) where
       let b : after ≡ numbersFor (orderLine flat) = g .1 ∙ o .1 in
       rw (a, b)
 
-pub open-spoken : (t : Table) (x : Line) (r s : Spoken) → r ≡ cond (isClosed t) (spokenOf (refusedLine 1)) s → s ≡ spokenOf x → r ≡ spokenOf (ifOpen t x)
-open-spoken t x r s g e = g ∙ rw e (go (isClosed t))
-  where
-    go : (b : Bool) → cond b (spokenOf (refusedLine 1)) (spokenOf x) ≡ spokenOf (cond b (refusedLine 1) x)
-    go true = refl
-    go false = refl
+-- before a good opening, and after it
+module _ (t : Table) (x : Line) where
+  pub shut-line : t .sites ≡ 0 → refusedLine 1 ≡ ifOpen t x
+  shut-line e = sym (rw (eq-eqb (t .sites) 0 e))
+
+  pub open-line : (t .sites ≡ 0 → ⊥) → x ≡ ifOpen t x
+  open-line z = sym (rw (ne-eqb (t .sites) 0 z))

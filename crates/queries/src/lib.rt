@@ -1,9 +1,8 @@
 // The two requests that ask about the kept rows and leave the table: a proposal and an order. What is said is a value here; the desk
 // writes it as text. RULES, Orders; The service.
 ghost use mathlib.Core.Path.{_≡_};
-ghost use mathlib.Core.Bool.{cond};
-ghost use Rattle.lines.specs.Line.{Line.say, refusedLine};
-ghost use Rattle.method.specs.Conditions.{isClosed};
+ghost use Rattle.cells.specs.Layout.{tableFrom};
+ghost use Rattle.lines.specs.Line.{Line.say};
 ghost use Rattle.method.specs.Slots.{keptFlat};
 ghost use Rattle.orders.specs.Reply.{checkReply, writeReply};
 ghost use Rattle.queries.specs.declared.Said as saids;
@@ -11,10 +10,10 @@ ghost use Rattle.queries.specs.Queries.{proposalLine, orderLine, ifOpen}
 ghost use Rattle.queries.specs.Said.{spokenOf, replySaid};
 use asking::check_kept;
 use asking::write_kept;
+use cells::Cells;
 use lines::Words;
 use orders::CheckAnswer;
 use orders::WriteAnswer;
-use table::Table;
 
 mod asking;
 
@@ -42,16 +41,6 @@ fn speak(words: Words) -> Spoken
     }
 }
 
-// Before a good opening there is one answer, whatever else was to be said.
-fn if_open(t: Table, s: Spoken) -> Spoken
-    ensures answer { λ r. ⌜ r ≡ cond (isClosed (t .held)) (spokenOf (refusedLine 1)) s ⌝ }
-{
-    if table::is_closed(t) {
-        return speak(Words::Refused(1));
-    }
-    s
-}
-
 // What the check answered.
 fn judged(a: CheckAnswer) -> Words
     ensures answer { λ r. ⌜ saids.Said.Words r ≡ replySaid (checkReply a) ⌝ }
@@ -64,11 +53,13 @@ fn judged(a: CheckAnswer) -> Words
 }
 
 // Is it an order of the kept rows?
-pub fn judge(t: Table, numbers: &[u32]) -> Spoken
-    ensures answer { λ r. ⌜ r ≡ spokenOf (ifOpen (t .held) (proposalLine (keptFlat (t .held)) (now (numbers .entry)))) ⌝ }
+pub fn judge(c: &Cells, numbers: &[u32]) -> Words
+    ensures answer { λ r. ⌜ say r ≡ ifOpen (tableFrom (now (c .entry))) (proposalLine (keptFlat (tableFrom (now (c .entry)))) (now (numbers .entry))) ⌝ }
 {
-    let words = judged(check_kept(t, numbers));
-    if_open(t, speak(words))
+    if cells::sites(c) == 0 {
+        return Words::Refused(1);
+    }
+    judged(check_kept(c, numbers))
 }
 
 // What the writer answered.
@@ -85,15 +76,17 @@ fn written(a: WriteAnswer) -> Said
 }
 
 // An order of the kept rows.
-pub fn give(t: Table) -> Spoken
-    ensures answer { λ r. ⌜ r ≡ spokenOf (ifOpen (t .held) (orderLine (keptFlat (t .held)))) ⌝ }
+pub fn give(c: &Cells) -> Spoken
+    ensures answer { λ r. ⌜ r ≡ spokenOf (ifOpen (tableFrom (now (c .entry))) (orderLine (keptFlat (tableFrom (now (c .entry)))))) ⌝ }
 {
+    if cells::sites(c) == 0 {
+        return speak(Words::Refused(1));
+    }
     let mut numbers: [u32; 32] = [0; 32];
-    let a = write_kept(t, &mut numbers);
+    let a = write_kept(c, &mut numbers);
     let said = written(a);
-    let s = Spoken {
+    Spoken {
         said: said,
         numbers: numbers,
-    };
-    if_open(t, s)
+    }
 }

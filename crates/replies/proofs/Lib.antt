@@ -1,6 +1,6 @@
 mod PartsLaws
 mod AskedLaws
+pub mod DueLaws
 pub mod TrialLaws
 pub mod RefusalLaws
 pub mod OrderedLaws
-mod RepliedLaws

@@ -1,6 +1,6 @@
 -- One message at the desk: the table after it, and its line. RULES, The service. Rests on the messages of `wire`, the lines of `lines`, the
 -- steps of `method` and the orders of `queries`.
-use mathlib.Core.List.{List}
+use mathlib.Core.List.{List, [], _∷_}
 use mathlib.Core.Option.{Option, none, some}
 use Prim.Native.Nat.{ℕ}
 use Rattle.lines.specs.declared.Words.{Words}
@@ -63,3 +63,16 @@ deskRead t (some m) = desk t m
 
 abbrev pub deskBody : Table → List ℕ → Table × Line
 deskBody t b = deskRead t (messageOf b)
+
+-- the calls that a body makes: one, or none
+abbrev pub callsIn : Asks → List Call
+callsIn (calls c) = c ∷ []
+callsIn (proposes ns) = []
+callsIn wantsOrder = []
+
+abbrev pub callsRead : Option Message → List Call
+callsRead none = []
+callsRead (some m) = callsIn (asksFor m)
+
+abbrev pub callsOf : List ℕ → List Call
+callsOf b = callsRead (messageOf b)

@@ -1,3 +1,4 @@
 pub mod Desk
+pub mod Due
 pub mod Asked
 pub mod Trials

@@ -1,52 +1,37 @@
-// One message's body on the table: the new table, and its line as a value. RULES, The service.
+// One message's body on lent cells: what the table becomes, and what is due for it. RULES, The service.
 ghost use mathlib.Core.Path.{_≡_};
-ghost use Rattle.table.specs.Shut.{shutTable};
-ghost use Rattle.queries.specs.Said.{spokenOf};
-ghost use Rattle.replies.specs.Desk.{deskBody};
+ghost use Rattle.cells.specs.Layout.{tableFrom};
+ghost use Rattle.cells.specs.After.{cellsAfterAll};
+ghost use Rattle.replies.specs.Desk.{deskBody, callsOf};
+ghost use Rattle.replies.specs.Due.{dueFor};
 use asked::Asked;
 use calls::call;
-use calls::tell;
-use method::Answer;
-use queries::Spoken;
-use table::Answered;
-use table::Table;
+use calls::words_of;
+use cells::Cells;
+use lines::Words;
 
 mod asked;
 mod calls;
 mod lists;
 
-// The table after the message, and what is said.
-pub struct Replied {
-    pub table: Table,
-    pub spoken: Spoken,
+// What is to be written: these words, or an order of the kept rows, which whoever writes it asks for.
+pub enum Due {
+    Words(Words),
+    Order,
 }
 
-pub fn reply(t: Table, body: &[u8]) -> Replied
-    ensures table { λ r. ⌜ r .table ≡ shutTable (deskBody (t .held) (now (body .entry)) .0) ⌝ }
-    ensures spoken { λ r. ⌜ r .spoken ≡ spokenOf (deskBody (t .held) (now (body .entry)) .1) ⌝ }
+pub fn reply(c: &mut Cells, body: &[u8]) -> Due
+    ensures cells { λ _. ⌜ now (c .exit) ≡ cellsAfterAll (now (c .entry)) (callsOf (now (body .entry))) ⌝ }
+    ensures table { λ _. ⌜ tableFrom (now (c .exit)) ≡ deskBody (tableFrom (now (c .entry))) (now (body .entry)) .0 ⌝ }
+    ensures due { λ r. ⌜ r ≡ dueFor (tableFrom (now (c .entry))) (now (body .entry)) ⌝ }
 {
     match asked::ask(body) {
-        Asked::Nothing => {
-            let answer = Answer::Refused(10);
-            tell(Answered {
-                table: t,
-                answer: answer,
-            })
+        Asked::Nothing => Due::Words(Words::Refused(10)),
+        Asked::Call(q) => {
+            let a = call(c, q, body);
+            Due::Words(words_of(a))
         }
-        Asked::Call(q) => tell(call(t, q, body)),
-        Asked::Proposal(n) => {
-            let s = lists::propose(t, n, body);
-            Replied {
-                table: t,
-                spoken: s,
-            }
-        }
-        Asked::Order => {
-            let s = queries::give(t);
-            Replied {
-                table: t,
-                spoken: s,
-            }
-        }
+        Asked::Proposal(n) => Due::Words(lists::propose(c, n, body)),
+        Asked::Order => Due::Order,
     }
 }

@@ -1,51 +1,23 @@
-// Who else has a ticket: check 6 of a report. RULES, Refusals.
+// Who else has a ticket: what check 6 of a report asks of a slot. RULES, Refusals.
 ghost use mathlib.Core.Path.{_≡_};
-ghost use Rattle.method.specs.Records.{partAt};
-ghost use Rattle.method.specs.Conditions.{holdsOther, taken};
+ghost use Rattle.method.specs.Records.{rowAt};
+ghost use Rattle.method.specs.Conditions.{holdsOther};
+ghost use Rattle.cells.specs.Layout.{tableFrom};
+use cells::Cells;
 use method::Number;
-use method::Row;
-use method::SITES;
-use method::SLOTS;
-use method::Table;
 use method::Ticket;
 
-// The ticket of a row at a site: 0 for none, and at a site that no row has.
-fn ticket_at(row: Row, s: usize) -> Ticket
-    ensures answer { λ k. ⌜ k ≡ partAt row s .ticket ⌝ }
+// Does the slot hold the ticket at the site for another transaction?
+pub fn is_rival(c: &Cells, i: usize, n: Number, s: usize, k: Ticket) -> bool
+    ensures answer { λ b. ⌜ b ≡ holdsOther (n .0) s (k .0) (rowAt (tableFrom (now (c .entry))) i) ⌝ }
 {
-    if SITES <= s {
-        return Ticket(0);
-    }
-    let p = row.parts[s];
-    p.ticket
-}
-
-fn holds_other(r: Row, n: Number, s: usize, k: Ticket) -> bool
-    ensures answer { λ b. ⌜ b ≡ holdsOther (n .0) s (k .0) r ⌝ }
-{
-    let state = r.state;
-    if records::is_free(state) {
+    if cells::is_free(c, i) {
         return false;
     }
-    let number = r.number;
+    let number = cells::number_at(c, i);
     if number.0 == n.0 {
         return false;
     }
-    let x = ticket_at(r, s);
+    let x = cells::ticket_at(c, i, s);
     x.0 == k.0
-}
-
-// Does another transaction in the table hold the ticket at the site?
-pub fn is_taken(t: Table, n: Number, s: usize, k: Ticket) -> bool
-    ensures answer { λ b. ⌜ b ≡ taken t (n .0) s (k .0) ⌝ }
-{
-    let mut i: usize = 0;
-    while i < SLOTS {
-        let r = t.rows[i];
-        if holds_other(r, n, s, k) {
-            return true;
-        }
-        i += 1;
-    }
-    false
 }

@@ -1,21 +1,20 @@
 -- Who was active when another committed, read off the run: exactly those active now with a number at or below the one that the
 -- commit recorded. Assumes nothing.
 use mathlib.Core.Path.{_≡_, refl, sym, ap, subst, _∙_}
-use mathlib.Core.Logic.{_↔_, _≢_, _⊎_, inl, inr}
-use Prim.Native.Nat.{ℕ, _+_, _≤_}
+use mathlib.Core.Logic.{_↔_, _≢_, inl, inr}
+use Prim.Native.Nat.{ℕ, _≤_}
 use native.Mathlib.Omega.{arith}
 use native.Mathlib.Decide.{ℕ-discrete}
-use Rattle.method.specs.declared.State.{State}
 use Rattle.method.specs.declared.Row.{Row}
 use Rattle.method.specs.declared.Table.{Table}
 use Rattle.method.specs.declared.Answer.{Answer}
-use Rattle.method.specs.Records.{number, freeRow, rowAt, closed}
-use Rattle.method.specs.Slots.{slotOf, rowOfNumber}
+use Rattle.method.specs.Records.{number, rowAt, closed}
+use Rattle.method.specs.Slots.{slotOf}
 use Rattle.method.specs.Calls.{Call}
-use Rattle.method.specs.Calls.Call.{begin, decide, sweep}
+use Rattle.method.specs.Calls.Call.{decide}
 use Rattle.method.specs.Effects.{newRow, reported, committedRow, step}
 use Rattle.method.proofs.RecordLaws.{never}
-use Rattle.method.specs.Seen.{Active, IsFree, IsActive, IsCommitted, num}
+use Rattle.method.specs.Seen.{IsActive, IsCommitted, num}
 use Rattle.runs.specs.Run.{Run, Run.start, Run.call, after, answerTo, Happened, Commits, CommitsBeside}
 use Rattle.runs.specs.History.{history}
 use Rattle.invariant.proofs.ChangeLaws.{Changed, both, not-committed, not-free}

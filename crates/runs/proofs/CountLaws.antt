@@ -1,11 +1,11 @@
 -- The highest ticket of each site and the last number, read off the run. Assumes nothing.
-use mathlib.Core.Path.{_≡_, refl, sym, ap, subst, _∙_}
+use mathlib.Core.Path.{_≡_, refl, sym, ap, _∙_}
 use mathlib.Core.List.{List, [], _∷_, List·Memᴰ·head as here, List·Memᴰ·tail as behind, List·Memᴰ·cases-cons, List·Memᴰ·not-nil}
-use mathlib.Core.Logic.{_≢_, _⊎_, inl, inr}
+use mathlib.Core.Logic.{_⊎_, inl, inr}
 use Prim.Native.Nat.{ℕ, zero, suc, _+_, _-_, _<_, _≤_, max}
 use native.Mathlib.Omega.{arith}
 use native.Mathlib.Decide.{decLe}
-use native.Mathlib.Nat.{not-suc-le-zero, le-of-suc-le-suc, add-zero}
+use native.Mathlib.Nat.{not-suc-le-zero, le-of-suc-le-suc}
 use lib.ListN.{length, getD}
 use Rattle.graph.specs.Lists.{_∈_}
 use Rattle.orders.specs.Arrow.{ticketAt}
@@ -14,7 +14,7 @@ use Rattle.method.specs.declared.Ticket.{Ticket}
 use Rattle.method.specs.declared.Row.{Row}
 use Rattle.method.specs.declared.Table.{Table}
 use Rattle.method.specs.declared.Answer.{Answer}
-use Rattle.method.specs.Records.{number, ticket, rowAt, highAt, closed}
+use Rattle.method.specs.Records.{number, ticket, highAt}
 use Rattle.method.specs.Slots.{slotOf, rowOfNumber, entryOf}
 use Rattle.method.specs.Conditions.{Closed, BadOpening}
 use Rattle.method.specs.Calls.{Call}

@@ -2,7 +2,7 @@
 -- happened before it. Assumes nothing.
 use mathlib.Core.Path.{_≡_, refl, sym, ap, _∙_}
 use mathlib.Core.List.{List}
-use mathlib.Core.Logic.{_↔_, _⊎_, inl, inr}
+use mathlib.Core.Logic.{_↔_, inl, inr}
 use mathlib.Core.Option.{Option, none, some}
 use Prim.Native.Nat.{ℕ}
 use Rattle.method.specs.declared.Report.{Report}
@@ -11,7 +11,7 @@ use Rattle.method.specs.declared.Answer.{Answer}
 use Rattle.method.specs.Calls.{Call}
 use Rattle.method.specs.Calls.Call.{openWith, begin, reportTicket, reportPrepared, abort, decide, forget, sweep}
 use Rattle.method.proofs.RecordLaws.{never}
-use Rattle.runs.specs.Run.{Run, Run.start, Run.call, after, answerTo, Happened, Opens, Begins, TakesTicket, reportCall, Reports, Commits}
+use Rattle.runs.specs.Run.{Run, Run.start, Run.call, after, answerTo, Happened, TakesTicket, reportCall, Reports}
 
 -- which report a call makes, for whom and where
 pub record Told : Type 0 where

@@ -1,39 +1,36 @@
 -- Decide, forget and sweep do exactly what RULES say, on every table. Assumes nothing.
-use mathlib.Core.Path.{_≡_, refl, sym, ap, _∙_}
+use mathlib.Core.Path.{_≡_, refl, ap, _∙_}
 use mathlib.Core.Bool.{Bool, true, false, not, _&&_, cond}
 use mathlib.Core.List.{List, [], _∷_, map}
-use mathlib.Core.Logic.{_↔_, _≢_, _⊎_, inl, inr}
+use mathlib.Core.Logic.{_↔_, _⊎_, inl, inr}
 use Prim.Native.Nat.{ℕ, _+_}
 use native.Mathlib.Omega.{arith}
 use lib.ListN.{length}
-use Rattle.graph.specs.Lists.{_∈_, keep}
+use Rattle.graph.specs.Lists.{keep}
 use Rattle.graph.specs.Path.{Cycle}
 use Rattle.graph.specs.Acyclic.{acyclic}
-use Rattle.graph.specs.Reached.{Reached}
-use Rattle.graph.proofs.TestLaws.{true-or-false, true-not-false, false-of-not-true, not-of-true, not-of-false}
+use Rattle.graph.proofs.TestLaws.{true-or-false, false-of-not-true, not-of-true, not-of-false}
 use Rattle.graph.proofs.MemberLaws.{keep-of-true, keep-of-false}
 use Rattle.graph.proofs.AcyclicLaws.{cycle-of-not-acyclic}
 use Rattle.graph.proofs.PathLaws.{cycle-of-weaker}
 use Rattle.graph.proofs.MapLaws.{mapped-cycle-iff}
 use Rattle.orders.specs.Arrow.{Arrow, arrowb}
 use Rattle.orders.proofs.ArrowLaws.{arrowb→arrow}
-use Rattle.method.specs.declared.State.{State}
 use Rattle.method.specs.declared.Row.{Row}
 use Rattle.method.specs.declared.Table.{Table}
 use Rattle.method.specs.declared.Answer.{Answer}
 use Rattle.method.specs.declared.Answered.{Answered}
-use Rattle.method.specs.Records.{number, freeRow, rowAt, isFree, committed, ticketsOf, Goes}
-use Rattle.method.specs.Slots.{slotOf, rowOfNumber, kept}
+use Rattle.method.specs.Records.{freeRow, isFree, committed, ticketsOf, Goes}
+use Rattle.method.specs.Slots.{rowOfNumber, kept}
 use Rattle.method.specs.Conditions.{Closed, Unknown, HasPred, HeldBack}
 use Rattle.method.specs.Calls.{rules, NoneHolds}
-use Rattle.method.specs.Calls.Call.{decide, forget, sweep}
+use Rattle.method.specs.Calls.Call.{decide, forget}
 use Rattle.method.specs.Effects.{answered, decided, freed, stays, sweptRow, sweptTable, sweptCount, effect, step}
 use Rattle.method.proofs.RecordLaws.{never, free-iff, committed-iff}
 use Rattle.method.proofs.CallLaws.{done-exactly, refused-exactly}
-use Rattle.method.proofs.GraphLaws.{no-cycle-iff, stays-iff}
+use Rattle.method.proofs.GraphLaws.{no-cycle-iff}
 use Rattle.runs.specs.Sweeps.{freeSlots}
-use Rattle.method.specs.Seen.{IsFree, IsCommitted}
-use Rattle.invariant.proofs.SweepLaws.{kept-of-slot, slot-goes, slot-stays, slot-other}
+use Rattle.method.specs.Seen.{IsCommitted}
 
 -- a decision that nothing refuses
 module _ (t : Table) (n : ℕ) (ok : NoneHolds (rules t (decide n))) where

@@ -1,11 +1,8 @@
 -- The table follows the run, and what the paper says of forgetting holds of it. Assumes nothing.
-use mathlib.Core.Path.{_≡_, refl, sym, ap, _∙_}
-use mathlib.Core.Bool.{true}
-use mathlib.Core.Logic.{_↔_, _≢_, _⊎_, inl, inr}
+use mathlib.Core.Path.{_≡_, refl}
+use mathlib.Core.Logic.{_↔_, _⊎_, inl, inr}
 use Prim.Native.Nat.{ℕ}
-use native.Mathlib.Decide.{ℕ-discrete}
 use Rattle.method.specs.declared.State.{State}
-use Rattle.method.specs.declared.Row.{Row}
 use Rattle.method.specs.declared.Table.{Table}
 use Rattle.method.specs.Records.{pastEnd, rowAt, active}
 use Rattle.method.specs.Slots.{activeRows}
@@ -16,7 +13,6 @@ use Rattle.method.specs.Seen.{Known, Active, Kept, IsFree, IsActive, IsCommitte
 use Rattle.runs.specs.Run.{Run, after, Happened, Commits, CommitsBeside, Over, BegunIn}
 use Rattle.runs.specs.Follows.{Follows}
 use Rattle.invariant.proofs.ChangeLaws.{not-committed, not-free}
-use Rattle.runs.proofs.HistoryLaws.{invariant-run}
 use Rattle.invariant.proofs.KnownLaws.{known-iff, unknown-of-not-known}
 use Rattle.runs.proofs.PresentLaws.{census, begun-or-not}
 use Rattle.runs.proofs.RowsFollowLaws.{rows-follow-run, begun-of-commit}

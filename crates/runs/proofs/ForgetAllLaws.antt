@@ -1,10 +1,10 @@
 -- A sweep is some forgets one after the other, and leaves none to forget: among the rows that go there is always one that no kept
 -- row has an arrow to, and without it the same others go. Assumes nothing.
 use mathlib.Core.Path.{_≡_, refl, sym, ap, subst, _∙_}
-use mathlib.Core.Bool.{Bool, true, false, not}
+use mathlib.Core.Bool.{true, false, not}
 use mathlib.Core.List.{List, [], _∷_, map, List·Memᴰ·head as here, List·Memᴰ·not-nil}
-use mathlib.Core.Logic.{_↔_, _≢_, _⊎_, inl, inr}
-use Prim.Native.Nat.{ℕ, zero, suc, _+_, _<_}
+use mathlib.Core.Logic.{_≢_, _⊎_, inl, inr}
+use Prim.Native.Nat.{ℕ, zero, suc, _<_}
 use native.Mathlib.Omega.{arith}
 use native.Mathlib.Decide.{ℕ-discrete}
 use native.Mathlib.Nat.{not-suc-le-zero, le-of-suc-le-suc}
@@ -16,13 +16,12 @@ use Rattle.graph.specs.Acyclic.{into}
 use Rattle.graph.specs.Reached.{Reached}
 use Rattle.graph.proofs.TestLaws.{true-or-false, true-not-false, false-of-not, not-of-false, same-of-iff}
 use Rattle.graph.proofs.MemberLaws.{any-of-member, kept-of-member, member-of-kept, kept-subset, all-or-one, keep-of-true, keep-of-false}
-use Rattle.graph.proofs.PathLaws.{start-of-path, last-of-path, cycle-of-larger, cycle-of-weaker, path-of-larger}
+use Rattle.graph.proofs.PathLaws.{start-of-path, cycle-of-larger, cycle-of-weaker, path-of-larger}
 use Rattle.graph.proofs.AcyclicLaws.{cycle-of-all-pointed}
 use Rattle.graph.proofs.MapLaws.{mapped-cycle-iff}
 use Rattle.graph.proofs.ReachedLaws.{reached-of-next}
 use Rattle.orders.specs.Entries.{Entry, EntryArrow}
 use Rattle.orders.proofs.OrderLaws.{order-exists-iff-no-cycle}
-use Rattle.method.specs.declared.State.{State}
 use Rattle.method.specs.declared.Row.{Row}
 use Rattle.method.specs.declared.Table.{Table}
 use Rattle.method.specs.declared.Answer.{Answer}
@@ -30,15 +29,15 @@ use Rattle.method.specs.declared.Answered.{Answered}
 use Rattle.method.specs.Records.{freeRow, pastEnd, rowAt, isFree, active, committed, withRows, withRow, Goes, goesb}
 use Rattle.method.specs.Slots.{slotOf, rowOfNumber, kept, activeRows, entryOf}
 use Rattle.method.specs.Conditions.{Closed, Unknown, HasPred, HeldBack}
-use Rattle.method.specs.Calls.Call.{forget, sweep}
-use Rattle.method.specs.Effects.{answered, freed, stays, sweptRow, sweptTable, sweptCount, step}
+use Rattle.method.specs.Calls.Call.{forget}
+use Rattle.method.specs.Effects.{answered, stays, sweptRow, sweptTable, sweptCount, step}
 use Rattle.method.proofs.RecordLaws.{never, free-iff, active-iff, committed-iff}
 use Rattle.method.proofs.ConditionLaws.{goes-iff}
 use Rattle.method.proofs.SlotLaws.{place-of-kept, kept-of-place}
 use Rattle.method.proofs.GraphLaws.{stays-iff}
-use Rattle.method.specs.Seen.{IsFree, IsActive, IsCommitted, num}
+use Rattle.method.specs.Seen.{IsFree, IsCommitted, num}
 use Rattle.invariant.specs.Invariant.{Invariant}
-use Rattle.runs.specs.Sweeps.{freeSlots, ForgetAll, NoneToForget}
+use Rattle.runs.specs.Sweeps.{freeSlots, ForgetAll}
 use Rattle.invariant.proofs.ChangeLaws.{Changed}
 use Rattle.invariant.proofs.KnownLaws.{Found, found, known-iff, changed, slot-of-used}
 use Rattle.invariant.proofs.DropLaws.{invariant-forget}

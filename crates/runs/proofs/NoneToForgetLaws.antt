@@ -4,21 +4,17 @@ use mathlib.Core.Bool.{true, false}
 use mathlib.Core.Logic.{_⊎_, inl, inr}
 use Prim.Native.Nat.{ℕ}
 use Rattle.graph.specs.Lists.{_∈_}
-use Rattle.graph.specs.Path.{ArrowPath}
 use Rattle.graph.specs.Reached.{Reached}
 use Rattle.graph.proofs.TestLaws.{true-or-false}
 use Rattle.graph.proofs.PathLaws.{last-of-path}
-use Rattle.method.specs.declared.State.{State}
 use Rattle.method.specs.declared.Row.{Row}
 use Rattle.method.specs.declared.Table.{Table}
-use Rattle.method.specs.declared.Answer.{Answer}
-use Rattle.method.specs.declared.Answered.{Answered}
-use Rattle.method.specs.Records.{freeRow, pastEnd, rowAt, active, committed, Goes}
+use Rattle.method.specs.Records.{pastEnd, rowAt, active, committed, Goes}
 use Rattle.method.specs.Slots.{slotOf, rowOfNumber, kept, activeRows}
-use Rattle.method.specs.Conditions.{HasPred, HeldBack, MayNotForget}
-use Rattle.method.specs.Calls.{rules, NoneHolds}
+use Rattle.method.specs.Conditions.{HeldBack, MayNotForget}
+use Rattle.method.specs.Calls.{rules}
 use Rattle.method.specs.Calls.Call.{forget}
-use Rattle.method.specs.Effects.{stays, sweptTable, effect, step}
+use Rattle.method.specs.Effects.{stays, sweptTable, step}
 use Rattle.method.proofs.RecordLaws.{never, active-iff, committed-iff}
 use Rattle.method.proofs.CallLaws.{Steps, Steps.stopped, Steps.passed, step-goes}
 use Rattle.method.proofs.SlotLaws.{place-of-kept, kept-of-place}

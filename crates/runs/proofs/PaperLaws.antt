@@ -13,7 +13,7 @@ use Rattle.method.specs.Records.{rowAt}
 use Rattle.method.specs.Slots.{slotOf, rowOfNumber}
 use Rattle.method.specs.Conditions.{Closed, Unknown, HasPred, HeldBack}
 use Rattle.method.specs.Calls.{rules}
-use Rattle.method.specs.Calls.Call.{forget, sweep}
+use Rattle.method.specs.Calls.Call.{forget}
 use Rattle.method.specs.Effects.{step}
 use Rattle.method.proofs.RecordLaws.{never}
 use Rattle.method.proofs.CallLaws.{Steps, Steps.stopped, Steps.passed, step-goes}

@@ -9,10 +9,10 @@ use Rattle.orders.specs.Entries.{Entry}
 use Rattle.method.specs.declared.Report.{Report}
 use Rattle.method.specs.declared.Table.{Table}
 use Rattle.method.specs.declared.Answer.{Answer}
-use Rattle.method.specs.Records.{number, rowAt}
+use Rattle.method.specs.Records.{number}
 use Rattle.method.specs.Slots.{slotOf, rowOfNumber, entryOf}
 use Rattle.method.specs.Calls.{Call}
-use Rattle.method.specs.Calls.Call.{reportTicket, decide}
+use Rattle.method.specs.Calls.Call.{decide}
 use Rattle.method.specs.Effects.{step}
 use Rattle.method.proofs.RecordLaws.{never}
 use Rattle.runs.specs.Run.{Run, Run.start, Run.call, after, answerTo, Happened, TakesTicket, Commits}

@@ -1,10 +1,9 @@
 -- A row in use is what its reports made it: over a step that does not concern it, and when it has just begun. Assumes nothing.
-use mathlib.Core.Path.{_≡_, refl, sym, ap, subst, _∙_}
-use mathlib.Core.Logic.{_↔_, _≢_, _⊎_, inl, inr}
-use Prim.Native.Nat.{ℕ, _<_, _≤_, _+_}
+use mathlib.Core.Path.{_≡_, ap, _∙_}
+use mathlib.Core.Logic.{inl, inr}
+use Prim.Native.Nat.{ℕ, _≤_, _+_}
 use native.Mathlib.Omega.{arith}
-use native.Mathlib.Decide.{ℕ-discrete}
-use lib.ListN.{length, replicate}
+use lib.ListN.{replicate}
 use Rattle.graph.proofs.TestLaws.{true-not-false}
 use Rattle.graph.proofs.MemberLaws.{member-or-not}
 use Rattle.sites.specs.Sites.{sitesOf}
@@ -13,9 +12,8 @@ use Rattle.method.specs.declared.Ticket.{Ticket}
 use Rattle.method.specs.declared.Report.{Report}
 use Rattle.method.specs.declared.Part.{Part}
 use Rattle.method.specs.declared.Row.{Row}
-use Rattle.method.specs.declared.Table.{Table}
 use Rattle.method.specs.declared.Answer.{Answer}
-use Rattle.method.specs.Records.{number, ticket, noPart, rowAt, partAt, highAt}
+use Rattle.method.specs.Records.{number, noPart, partAt}
 use Rattle.method.specs.Stages.{firstStage, given}
 use Rattle.method.specs.Calls.{Call}
 use Rattle.method.specs.Calls.Call.{begin}
@@ -23,9 +21,9 @@ use Rattle.method.specs.Effects.{newRow}
 use Rattle.method.proofs.RecordLaws.{never}
 use Rattle.method.proofs.StageLaws.{given-first}
 use Rattle.method.proofs.RowLaws.{ticket-part, getD-replicate-same, based-other, based-listed}
-use Rattle.method.specs.Seen.{Known, IsActive, IsCommitted, num, Has, base, tick}
+use Rattle.method.specs.Seen.{num, tick}
 use Rattle.runs.specs.Run.{Run, Run.call, after, answerTo, Happened, TakesTicket, Reports, Commits, BegunIn}
-use Rattle.runs.specs.Follows.{BeginsAt, RowFollows}
+use Rattle.runs.specs.Follows.{RowFollows}
 use Rattle.invariant.proofs.OpenLaws.{new-part}
 use Rattle.runs.proofs.EventLaws.{report-of-ticket, happened-map, later-iff}
 

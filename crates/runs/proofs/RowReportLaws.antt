@@ -1,9 +1,8 @@
 -- A row that a report or a commit changed is what its reports made it. Assumes nothing.
 use mathlib.Core.Path.{_≡_, refl, sym, ap, subst, _∙_}
 use mathlib.Core.Bool.{true, false, _||_}
-use mathlib.Core.Logic.{_↔_, _≢_, _⊎_, inl, inr}
+use mathlib.Core.Logic.{_↔_, _≢_, inl, inr}
 use Prim.Native.Nat.{ℕ, _<_}
-use native.Mathlib.Omega.{arith}
 use native.Mathlib.Decide.{ℕ-discrete}
 use lib.ListN.{length}
 use Rattle.graph.proofs.TestLaws.{true-not-false, or-of-left, or-of-right, either-of-or}
@@ -15,10 +14,10 @@ use Rattle.method.specs.declared.Part.{Part}
 use Rattle.method.specs.declared.Row.{Row}
 use Rattle.method.specs.declared.Table.{Table}
 use Rattle.method.specs.declared.Answer.{Answer}
-use Rattle.method.specs.Records.{number, ticket, part, noPart, partAt, highAt, ticketsOf}
+use Rattle.method.specs.Records.{number, ticket, noPart, partAt, ticketsOf}
 use Rattle.method.specs.Stages.{stepOf, stageTo, given}
 use Rattle.method.specs.Calls.{Call}
-use Rattle.method.specs.Calls.Call.{reportTicket, reportPrepared, decide}
+use Rattle.method.specs.Calls.Call.{reportTicket, decide}
 use Rattle.method.specs.Effects.{reported, committedRow}
 use Rattle.method.proofs.RecordLaws.{never}
 use Rattle.method.proofs.StageLaws.{same, same-iff, given-new, given-step}
@@ -26,7 +25,6 @@ use Rattle.method.proofs.RowLaws.{ticket-part, reported-same, reported-other}
 use Rattle.runs.specs.Run.{Run, Run.call, after, answerTo, Happened, TakesTicket, reportCall, Reports, Commits}
 use Rattle.method.specs.Seen.{IsActive, IsCommitted, num, Has, base, tick}
 use Rattle.runs.specs.Follows.{BeginsAt, RowFollows}
-use Rattle.invariant.proofs.ChangeLaws.{not-committed}
 use Rattle.runs.proofs.EventLaws.{Told, same-told, report-of-ticket, happened-map, later-iff}
 use Rattle.runs.proofs.StepLaws.{brought}
 

@@ -1,13 +1,12 @@
 -- Every row in use is what its reports made it, after every run. Assumes nothing.
 use mathlib.Core.Path.{_≡_, refl, sym, ap, subst, _∙_}
-use mathlib.Core.Logic.{_↔_, _≢_, _⊎_, inl, inr}
-use Prim.Native.Nat.{ℕ, _≤_}
-use Rattle.method.specs.declared.Number.{Number}
+use mathlib.Core.Logic.{_≢_, inl, inr}
+use Prim.Native.Nat.{ℕ}
 use Rattle.method.specs.declared.Report.{Report}
 use Rattle.method.specs.declared.Row.{Row}
 use Rattle.method.specs.declared.Table.{Table}
 use Rattle.method.specs.declared.Answer.{Answer}
-use Rattle.method.specs.Records.{number, freeRow, closed, rowAt}
+use Rattle.method.specs.Records.{number, closed, rowAt}
 use Rattle.method.specs.Slots.{slotOf, rowOfNumber}
 use Rattle.method.specs.Calls.{Call}
 use Rattle.method.specs.Calls.Call.{decide}
@@ -17,13 +16,13 @@ use Rattle.method.specs.Seen.{IsFree, IsActive, num, Known}
 use Rattle.runs.specs.Run.{Run, Run.start, Run.call, after, answerTo, Happened, reportCall, Reports, Commits, BegunIn}
 use Rattle.runs.specs.History.{history}
 use Rattle.runs.specs.Follows.{RowFollows}
-use Rattle.invariant.proofs.ChangeLaws.{Changed, every, not-free}
+use Rattle.invariant.proofs.ChangeLaws.{every, not-free}
 use Rattle.invariant.proofs.OpenLaws.{invariant-closed, free-after-open}
 use Rattle.runs.proofs.HistoryLaws.{invariant-run}
 use Rattle.runs.proofs.StepLaws.{Change, Change.refuses, Change.opens, Change.begins, Change.reports, Change.commits, Change.clears}
 use Rattle.invariant.proofs.StandingLaws.{closed-free, one-slot}
 use Rattle.runs.proofs.EventLaws.{Told, same-told, no-report-open}
-use Rattle.runs.proofs.PresentLaws.{change-of-run, Census, census}
+use Rattle.runs.proofs.PresentLaws.{change-of-run, census}
 use Rattle.runs.proofs.RowFollowLaws.{Silent, row-silent, row-begun}
 use Rattle.runs.proofs.RowReportLaws.{row-reported, row-committed}
 

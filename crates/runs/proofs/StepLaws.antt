@@ -5,15 +5,13 @@ use mathlib.Core.Path.{_≡_, refl, sym, ap, subst, _∙_}
 use mathlib.Core.Bool.{Bool, true, false}
 use mathlib.Core.List.{List, _∷_, map}
 use mathlib.Core.Logic.{_≢_, _⊎_, inl, inr}
-use Prim.Native.Nat.{ℕ, _+_, _<_, _≤_, max}
+use Prim.Native.Nat.{ℕ, _+_, _<_, max}
 use native.Mathlib.Omega.{arith}
 use native.Mathlib.Decide.{ℕ-discrete}
 use lib.ListN.{length}
-use Rattle.graph.specs.Lists.{_∈_}
 use Rattle.graph.specs.Acyclic.{acyclic}
 use Rattle.orders.specs.Arrow.{arrowb}
 use Rattle.orders.specs.Entries.{Entry}
-use Rattle.method.specs.declared.Number.{Number}
 use Rattle.method.specs.declared.Ticket.{Ticket}
 use Rattle.method.specs.declared.Stage.{Stage}
 use Rattle.method.specs.declared.Report.{Report}
@@ -36,7 +34,7 @@ use Rattle.method.proofs.StageLaws.{to-of-step}
 use Rattle.method.proofs.CallLaws.{Steps, Steps.stopped, Steps.passed, step-goes, done-exactly}
 use Rattle.invariant.specs.Invariant.{Invariant}
 use Rattle.invariant.specs.Noted.{noted}
-use Rattle.invariant.proofs.ChangeLaws.{Changed, not-free}
+use Rattle.invariant.proofs.ChangeLaws.{Changed}
 use Rattle.invariant.proofs.KnownLaws.{found, changed}
 use Rattle.invariant.proofs.StandingLaws.{one-slot}
 use Rattle.invariant.proofs.InvariantLaws.{closed-of-not-not}

@@ -1,6 +1,6 @@
 -- A run of calls from the closed table on, and what can be read off it: which call was made when, and what it was answered.
 use mathlib.Core.Path.{_≡_}
-use mathlib.Core.List.{List, [], _∷_}
+use mathlib.Core.List.{List}
 use mathlib.Core.Logic.{_⊎_}
 use Prim.Native.Nat.{ℕ, _+_}
 use Rattle.method.specs.declared.Report.{Report}

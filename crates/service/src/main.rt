@@ -4,13 +4,16 @@ ghost use mathlib.Core.Path.{_≡_};
 ghost use Prim.Native.Nat.{_-_, _≤_};
 ghost use lib.ListN.{length, take, drop};
 ghost use Rattle.endian.specs.Laid.{laid};
+use cells::CELLS;
+use cells::Cells;
 use libc::STDIN_FILENO;
 use libc::STDOUT_FILENO;
-use table::Table;
 
-// Between two reads: the table, how many bytes of input wait in front of their buffer, and whether to go on.
+// The size of each of the two buffers; docs/PERFORMANCE.md has what others cost.
+const BUFFER: usize = 16384;
+
+// Between two reads: how many bytes of input wait in front of their buffer, and whether to go on.
 struct State {
-    table: Table,
     waiting: usize,
     going: bool,
 }
@@ -30,30 +33,26 @@ fn move_down(buf: &mut [u8], from: usize, to: usize)
 
 // Answers every whole message that waits, a turn and a write at a time. The output's buffer takes the longest line, so a turn
 // that used nothing has found no whole message.
-fn settle(t: Table, waiting: usize, last: bool, input: &mut [u8], output: &mut [u8]) -> State
+fn settle(c: &mut Cells, waiting: usize, last: bool, input: &mut [u8], output: &mut [u8]) -> State
     requires { ⌜ waiting ≤ length (now input) ⌝ }
     ensures { λ r. ⌜ r .waiting ≤ length (now (input .entry)) ⌝ }
 {
-    let mut table = t;
     let mut left = waiting;
     loop {
-        let r = turns::take_turn(table, &input[..left], last, output);
+        let r = turns::take_turn(c, &input[..left], last, output);
         let written = r.written;
         let used = r.used;
-        table = r.table;
         let sent = io::write_all(STDOUT_FILENO, &output[..written]);
         move_down(input, used, left);
         left -= used;
         if r.over | !sent {
             return State {
-                table: table,
                 waiting: left,
                 going: false,
             };
         }
         if used == 0 {
             return State {
-                table: table,
                 waiting: left,
                 going: !last,
             };
@@ -62,37 +61,34 @@ fn settle(t: Table, waiting: usize, last: bool, input: &mut [u8], output: &mut [
 }
 
 // Reads once, and answers what is then whole. A read that gives nothing is the end of the input.
-fn round(s: State, input: &mut [u8], output: &mut [u8]) -> State
+fn round(c: &mut Cells, s: State, input: &mut [u8], output: &mut [u8]) -> State
     requires { ⌜ s .waiting ≤ length (now input) ⌝ }
     ensures { λ r. ⌜ r .waiting ≤ length (now (input .entry)) ⌝ }
 {
     let waiting = s.waiting;
-    let table = s.table;
     let got = libc::read(STDIN_FILENO, &mut input[waiting..]);
     if got < 0 {
         return State {
-            table: table,
             waiting: waiting,
             going: false,
         };
     }
     let n = io::count(got, &input[waiting..]);
-    settle(table, waiting + n, n == 0, input, output)
+    settle(c, waiting + n, n == 0, input, output)
 }
 
 // A proved loop has to end, and nothing says that the input does: it counts its reads down from a number that no run uses up.
 fn main() {
-    let mut input = io::large_buffer();
-    let mut output = io::large_buffer();
-    let table = table::closed();
+    let mut table: Cells = [0; CELLS];
+    let mut input: [u8; BUFFER] = [0; BUFFER];
+    let mut output: [u8; BUFFER] = [0; BUFFER];
     let mut state = State {
-        table: table,
         waiting: 0,
         going: true,
     };
     let mut reads = u64::MAX;
     while reads > 0 {
-        state = round(state, &mut input, &mut output);
+        state = round(&mut table, state, &mut input, &mut output);
         if !state.going {
             return;
         }

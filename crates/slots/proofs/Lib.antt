@@ -1,1 +1,4 @@
+pub mod FoundLaws
 pub mod GateLaws
+pub mod UsedLaws
+pub mod WantedLaws

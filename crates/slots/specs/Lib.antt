@@ -1,2 +1,3 @@
 pub mod Gate
-pub mod Suiting
+pub mod Used
+pub mod Wanted

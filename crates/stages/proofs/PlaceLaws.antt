@@ -4,24 +4,16 @@ use mathlib.Core.Bool.{Bool, true, false, cond}
 use mathlib.Core.List.{List, _∷_}
 use mathlib.Core.Option.{Option, some}
 use mathlib.Core.Logic.{_⊎_, inl, inr}
-use Prim.Native.Nat.{ℕ, _<_}
-use borrow.Author.Tests.{not-false}
-use Rattle.sites.specs.Sites.{listed}
-use Rattle.sites.proofs.SitesLaws.{lt-of-listed}
+use Prim.Native.Nat.{ℕ}
 use Rattle.graph.proofs.TestLaws.{true-or-false}
-use Rattle.method.specs.declared.Ticket.{Ticket}
-use Rattle.method.specs.declared.Answer.{Answer}
 use Rattle.method.specs.declared.Stage.{Stage}
 use Rattle.method.specs.declared.Report.{Report}
 use Rattle.method.specs.declared.Step.{Step}
 use Rattle.method.specs.declared.Row.{Row}
-use Rattle.method.specs.declared.Table.{Table}
-use Rattle.method.specs.Records.{part, rowAt, partAt, withRow, withPart}
+use Rattle.method.specs.Records.{partAt}
 use Rattle.method.specs.Stages.{stepOf, isRefused, stageTo}
-use Rattle.method.specs.Slots.{slotOf, rowOfNumber}
 use Rattle.method.specs.Conditions.{notListed, noStep}
 use Rattle.method.specs.Calls.{firstTrue}
-use Rattle.method.specs.Effects.{answered, reported}
 use Rattle.stages.specs.declared.Place.{Place}
 use Rattle.stages.specs.Place.{stepPlace, placeOf}
 use Rattle.method.proofs.RecordLaws.{never}
@@ -38,7 +30,6 @@ place-refused r s p k rest e = go (notListed r s) (stepOf (partAt r s .stage) p)
 
 pub record Placed (r : Row) (s : ℕ) (p : Report) (g : Stage) (rest : List (ℕ × Bool)) : Type 0 where
   pub on : firstTrue ((3, notListed r s) ∷ (4, noStep r s p) ∷ rest) ≡ firstTrue rest
-  pub site : s < 8
   pub stage : g ≡ stageTo (partAt r s .stage) (stepOf (partAt r s .stage) p)
 
 pub place-passed : (r : Row) (s : ℕ) (p : Report) (g : Stage) (rest : List (ℕ × Bool)) → placeOf r s p ≡ Place.To g → Placed r s p g rest
@@ -49,18 +40,9 @@ place-passed r s p g rest e = go (true-or-false (notListed r s))
     go (inl a) = let z : Place.Refused 3 ≡ Place.To g = rw a at e in never (cc)
     go (inr a) = record {
       on = rw a (stepped (stepOf (partAt r s .stage) p) (rw a at e) .0);
-      site = lt-of-listed (r .sites) s (not-false (listed (r .sites) s) a);
       stage = stepped (stepOf (partAt r s .stage) p) (rw a at e) .1;
     }
       where
         stepped : (x : Step) → stepPlace x ≡ Place.To g → (firstTrue ((4, isRefused x) ∷ rest) ≡ firstTrue rest) × (g ≡ stageTo (partAt r s .stage) x)
         stepped (Step.To h) q = (refl, (let z : h ≡ g = cc in sym z))
         stepped Step.Refused q = never (cc)
-
--- what a report does, said of the slot and the stage that were found
-pub reported-at : (t : Table) (n i s : ℕ) (p : Report) (g : Stage) (k : Row → Ticket) → i ≡ slotOf t n
-    → g ≡ stageTo (partAt (rowAt t i) s .stage) (stepOf (partAt (rowAt t i) s .stage) p)
-    → answered (withRow t (slotOf t n) (reported (rowOfNumber t n) s p (k (rowOfNumber t n)))) Answer.Done
-    ≡ answered (withRow t i (withPart (rowAt t i) s (part g (partAt (rowAt t i) s .base) (k (rowAt t i))))) Answer.Done
-unfolding reported
-reported-at t n i s p g k e f = rw (sym e, f)

@@ -1,10 +1,12 @@
 // Stage against report: where a report leads a site of a transaction. RULES, The table.
 ghost use mathlib.Core.Path.{_≡_};
 ghost use Prim.Native.Nat.{_<_};
+ghost use Rattle.method.specs.Records.{rowAt};
 ghost use Rattle.method.specs.Stages.{stepOf, stageNo, reportNo};
+ghost use Rattle.cells.specs.Layout.{tableFrom};
 ghost use Rattle.stages.specs.Place.{placeOf};
+use cells::Cells;
 use method::Report;
-use method::Row;
 use method::Stage;
 use method::Step;
 
@@ -48,16 +50,14 @@ pub enum Place {
     Refused(u8),
 }
 
-pub fn next_place(r: Row, s: u8, p: Report) -> Place
-    ensures answer { λ x. ⌜ x ≡ placeOf r s p ⌝ }
+pub fn next_place(c: &Cells, slot: usize, s: u8, p: Report) -> Place
+    ensures answer { λ x. ⌜ x ≡ placeOf (rowAt (tableFrom (now (c .entry))) slot) s p ⌝ }
 {
-    let listed = r.sites;
+    let listed = cells::sites_at(c, slot);
     if !sites::has_site(listed, s) {
         return Place::Refused(3);
     }
-    let site = s as usize;
-    let part = r.parts[site];
-    let stage = part.stage;
+    let stage = cells::stage_at(c, slot, s as usize);
     match next_step(stage, p) {
         Step::To(g) => Place::To(g),
         Step::Refused => Place::Refused(4),

@@ -4,6 +4,7 @@ use mathlib.Core.Bool.{Bool, true, false, not, _&&_}
 use mathlib.Core.List.{List}
 use Prim.Native.Nat.{ℕ, _<_}
 use lib.ListN.{length, getD}
+use Rattle.graph.specs.Lists.{keep}
 use Rattle.method.specs.declared.Row.{Row}
 use Rattle.method.specs.declared.Table.{Table}
 use Rattle.method.specs.Records.{committed, rowAt}
@@ -19,5 +20,10 @@ pub record StayMarks (t : Table) (marks : List Bool) : Type 0 where
   pub size : length marks ≡ 32
   pub each : (i : ℕ) → i < 32 → committed (rowAt t i) ≡ true → getD marks i false ≡ stays t (rowAt t i)
 
-abbrev pub goes : Row → Bool → Bool
-goes r b = committed r && not b
+-- a row that goes
+abbrev pub goesIn : Table → Row → Bool
+goesIn t r = committed r && not (stays t r)
+
+-- how many marks there are
+abbrev pub marked : List Bool → ℕ
+marked bs = length (keep (λ b. b) bs)

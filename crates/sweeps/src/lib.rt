@@ -1,27 +1,27 @@
 // Sweep: every kept row goes that no path of arrows reaches from a row that is held back. RULES, Forgetting.
 ghost use mathlib.Core.Path.{_≡_};
-ghost use mathlib.Core.Bool.{cond};
-ghost use lib.ListN.{length};
-ghost use Rattle.method.specs.Records.{freeRow};
+ghost use mathlib.Core.List.{map};
 ghost use Rattle.method.specs.Calls.Call.{sweep as sweepCall};
-ghost use Rattle.method.specs.Effects.{effect, step};
-ghost use Rattle.sweeps.specs.Marks.{HeldMarks, StayMarks, goes as goesAway};
+ghost use Rattle.method.specs.Effects.{step};
+ghost use Rattle.cells.specs.Layout.{tableFrom};
+ghost use Rattle.cells.specs.Puts.{freeMarked};
+ghost use Rattle.cells.specs.After.{cellsAfter};
+ghost use Rattle.sweeps.specs.Marks.{HeldMarks, StayMarks, goesIn, marked};
+use cells::Cells;
 use method::Answer;
-use method::Answered;
-use method::Row;
-use method::Table;
+use method::SLOTS;
+use slots::Wanted;
 
 // The kept rows that an active transaction holds back. Slots without one are passed by.
-fn held(t: Table) -> [bool; 32]
-    ensures answer { λ r. ⌜ HeldMarks t r ⌝ }
+fn held(c: &Cells) -> [bool; SLOTS]
+    ensures answer { λ r. ⌜ HeldMarks (tableFrom (now (c .entry))) r ⌝ }
 {
-    let mut marks = [false; 32];
+    let mut marks = [false; SLOTS];
     let mut i: usize = 0;
-    while i < 32 {
-        let row = t.rows[i];
-        let state = row.state;
-        if records::is_committed(state) {
-            let b = blockers::is_held_back(t, row);
+    while i < SLOTS {
+        if cells::is_committed(c, i) {
+            let last = cells::last_at(c, i);
+            let b = slots::has(c, Wanted::Older(last));
             marks[i] = b;
         }
         i += 1;
@@ -29,63 +29,51 @@ fn held(t: Table) -> [bool; 32]
     marks
 }
 
-fn goes(row: Row, stays: bool) -> bool
-    ensures answer { λ r. ⌜ r ≡ goesAway row stays ⌝ }
+// The kept rows that do not stay.
+fn going(c: &Cells, stay: [bool; SLOTS]) -> [bool; SLOTS]
+    requires { ⌜ StayMarks (tableFrom (now c)) stay ⌝ }
+    ensures answer { λ r. ⌜ r ≡ map (goesIn (tableFrom (now (c .entry)))) (tableFrom (now (c .entry)) .rows) ⌝ }
 {
-    let state = row.state;
-    if stays {
-        false
-    } else {
-        records::is_committed(state)
-    }
-}
-
-fn left_of(row: Row, stays: bool) -> Row
-    ensures answer { λ r. ⌜ r ≡ cond (goesAway row stays) freeRow row ⌝ }
-{
-    if goes(row, stays) {
-        records::free_row()
-    } else {
-        row
-    }
-}
-
-fn counts(row: Row, stays: bool) -> u32
-    ensures answer { λ r. ⌜ r ≡ cond (goesAway row stays) 1 0 ⌝ }
-{
-    if goes(row, stays) { 1 } else { 0 }
-}
-
-// The rows that do not stay go, and are counted.
-fn cleared(t: Table, stay: [bool; 32]) -> Answered
-    requires { ⌜ StayMarks t stay ⌝ }
-    ensures answer { λ r. ⌜ r ≡ effect t sweepCall ⌝ }
-{
-    let mut u = t;
-    let mut n: u32 = 0;
+    let mut marks = [false; SLOTS];
     let mut i: usize = 0;
-    while i < 32 {
-        let row = t.rows[i];
-        let stays = stay[i];
-        let rest = left_of(row, stays);
-        u.rows[i] = rest;
-        n += counts(row, stays);
+    while i < SLOTS {
+        if !stay[i] {
+            let b = cells::is_committed(c, i);
+            marks[i] = b;
+        }
         i += 1;
     }
-    Answered {
-        table: u,
-        answer: Answer::Swept(n),
-    }
+    marks
 }
 
-pub fn sweep(t: Table) -> Answered
-    ensures answer { λ r. ⌜ r ≡ step t sweepCall ⌝ }
+// Frees the slots that have a mark, and counts them.
+fn cleared(c: &mut Cells, marks: [bool; SLOTS]) -> u32
+    ensures count { λ n. ⌜ n ≡ marked marks ⌝ }
+    ensures cells { λ n. ⌜ now (c .exit) ≡ freeMarked (now (c .entry)) 0 marks ⌝ }
 {
-    if t.sites == 0 {
-        return records::refuse(t, 1);
+    let mut n: u32 = 0;
+    let mut i: usize = 0;
+    while i < SLOTS {
+        if marks[i] {
+            cells::free_slot(c, i);
+            n += 1;
+        }
+        i += 1;
     }
-    let flat = kept::aligned::tickets(t, 32);
-    let marks = held(t);
+    n
+}
+
+pub fn sweep(c: &mut Cells) -> Answer
+    ensures answer { λ r. ⌜ r ≡ step (tableFrom (now (c .entry))) sweepCall .answer ⌝ }
+    ensures cells { λ r. ⌜ now (c .exit) ≡ cellsAfter (now (c .entry)) sweepCall ⌝ }
+{
+    if cells::sites(c) == 0 {
+        return Answer::Refused(1);
+    }
+    let flat = kept::aligned::tickets(c, SLOTS);
+    let marks = held(c);
     let stay = paths::reached(flat, marks);
-    cleared(t, stay)
+    let gone = going(c, stay);
+    let n = cleared(c, gone);
+    Answer::Swept(n)
 }

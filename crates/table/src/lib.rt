@@ -7,16 +7,22 @@ ghost use Rattle.method.specs.Records.{closed as closedTable};
 ghost use Rattle.method.specs.Slots.{keptFlat};
 ghost use Rattle.method.specs.Conditions.{isClosed};
 ghost use Rattle.method.specs.Calls.Call.{openWith, begin as beginCall, reportTicket, reportPrepared, abort as abortCall, decide as decideCall, forget as forgetCall, sweep as sweepCall};
+ghost use Rattle.method.specs.Effects.{step};
+ghost use Rattle.cells.specs.Puts.{zeros};
+ghost use Rattle.slots.specs.Used.{usedBy};
 ghost use Rattle.kept.specs.Packed.{packedOf};
-ghost use Rattle.table.specs.Shut.{shutTable, answerTo, tableAfter, usedBy};
+ghost use Rattle.table.specs.Shut.{shutCells, held, answerTo, tableAfter};
+use cells::CELLS;
+use cells::Cells;
 use kept::packed::Kept;
 use method::Answer;
 use method::Number;
 use method::Ticket;
-use slots::Gate;
+
+pub mod plain;
 
 pub struct Table {
-    held: method::Table,
+    cells: Cells,
 }
 
 pub struct Answered {
@@ -24,127 +30,157 @@ pub struct Answered {
     pub answer: Answer,
 }
 
-fn shut(a: method::Answered) -> Answered
-    ensures answer { λ r. ⌜ r .answer ≡ a .answer ⌝ }
-    ensures table { λ r. ⌜ r .table ≡ shutTable (a .table) ⌝ }
-{
-    let held = a.table;
-    let answer = a.answer;
-    Answered {
-        table: Table { held: held },
-        answer: answer,
-    }
-}
-
 // The table to start from: it knows no site, and refuses all calls but open.
 pub fn closed() -> Table
-    ensures answer { λ r. ⌜ r ≡ shutTable closedTable ⌝ }
+    ensures answer { λ r. ⌜ r ≡ shutCells zeros ⌝ }
+    ensures held { λ r. ⌜ held r ≡ closedTable ⌝ }
 {
-    let held = openings::closed();
-    Table { held: held }
+    let c: Cells = [0; CELLS];
+    Table { cells: c }
 }
 
 pub fn open_with(t: Table, first: Number, floors: &[u32]) -> Answered
     ensures answer { λ r. ⌜ r .answer ≡ answerTo t (openWith (first .0) (now (floors .entry))) ⌝ }
     ensures table { λ r. ⌜ r .table ≡ tableAfter t (openWith (first .0) (now (floors .entry))) ⌝ }
+    ensures held { λ r. ⌜ held (r .table) ≡ step (held t) (openWith (first .0) (now (floors .entry))) .table ⌝ }
 {
-    let held = t.held;
-    let a = openings::open_with(held, first, floors);
-    shut(a)
+    let c = t.cells;
+    let l = plain::open_with(c, first, floors);
+    let d = l.cells;
+    let a = l.answer;
+    Answered {
+        table: Table { cells: d },
+        answer: a,
+    }
 }
 
 // `sites` is a set of sites, site 0 its lowest bit.
 pub fn begin(t: Table, sites: u8) -> Answered
     ensures answer { λ r. ⌜ r .answer ≡ answerTo t (beginCall sites) ⌝ }
     ensures table { λ r. ⌜ r .table ≡ tableAfter t (beginCall sites) ⌝ }
+    ensures held { λ r. ⌜ held (r .table) ≡ step (held t) (beginCall sites) .table ⌝ }
 {
-    let held = t.held;
-    let a = beginnings::begin(held, sites);
-    shut(a)
+    let c = t.cells;
+    let l = plain::begin(c, sites);
+    let d = l.cells;
+    let a = l.answer;
+    Answered {
+        table: Table { cells: d },
+        answer: a,
+    }
 }
 
 pub fn report_ticket(t: Table, n: Number, s: u8, k: Ticket) -> Answered
     ensures answer { λ r. ⌜ r .answer ≡ answerTo t (reportTicket (n .0) s (k .0)) ⌝ }
     ensures table { λ r. ⌜ r .table ≡ tableAfter t (reportTicket (n .0) s (k .0)) ⌝ }
+    ensures held { λ r. ⌜ held (r .table) ≡ step (held t) (reportTicket (n .0) s (k .0)) .table ⌝ }
 {
-    let held = t.held;
-    let a = reports::report_ticket(held, n, s, k);
-    shut(a)
+    let c = t.cells;
+    let l = plain::report_ticket(c, n, s, k);
+    let d = l.cells;
+    let a = l.answer;
+    Answered {
+        table: Table { cells: d },
+        answer: a,
+    }
 }
 
 pub fn report_prepared(t: Table, n: Number, s: u8) -> Answered
     ensures answer { λ r. ⌜ r .answer ≡ answerTo t (reportPrepared (n .0) s) ⌝ }
     ensures table { λ r. ⌜ r .table ≡ tableAfter t (reportPrepared (n .0) s) ⌝ }
+    ensures held { λ r. ⌜ held (r .table) ≡ step (held t) (reportPrepared (n .0) s) .table ⌝ }
 {
-    let held = t.held;
-    let a = reports::report_prepared(held, n, s);
-    shut(a)
+    let c = t.cells;
+    let l = plain::report_prepared(c, n, s);
+    let d = l.cells;
+    let a = l.answer;
+    Answered {
+        table: Table { cells: d },
+        answer: a,
+    }
 }
 
 pub fn abort(t: Table, n: Number) -> Answered
     ensures answer { λ r. ⌜ r .answer ≡ answerTo t (abortCall (n .0)) ⌝ }
     ensures table { λ r. ⌜ r .table ≡ tableAfter t (abortCall (n .0)) ⌝ }
+    ensures held { λ r. ⌜ held (r .table) ≡ step (held t) (abortCall (n .0)) .table ⌝ }
 {
-    let held = t.held;
-    let a = endings::abort(held, n);
-    shut(a)
+    let c = t.cells;
+    let l = plain::abort(c, n);
+    let d = l.cells;
+    let a = l.answer;
+    Answered {
+        table: Table { cells: d },
+        answer: a,
+    }
 }
 
 pub fn decide(t: Table, n: Number) -> Answered
     ensures answer { λ r. ⌜ r .answer ≡ answerTo t (decideCall (n .0)) ⌝ }
     ensures table { λ r. ⌜ r .table ≡ tableAfter t (decideCall (n .0)) ⌝ }
+    ensures held { λ r. ⌜ held (r .table) ≡ step (held t) (decideCall (n .0)) .table ⌝ }
 {
-    let held = t.held;
-    let a = decisions::decide(held, n);
-    shut(a)
+    let c = t.cells;
+    let l = plain::decide(c, n);
+    let d = l.cells;
+    let a = l.answer;
+    Answered {
+        table: Table { cells: d },
+        answer: a,
+    }
 }
 
 pub fn forget(t: Table, n: Number) -> Answered
     ensures answer { λ r. ⌜ r .answer ≡ answerTo t (forgetCall (n .0)) ⌝ }
     ensures table { λ r. ⌜ r .table ≡ tableAfter t (forgetCall (n .0)) ⌝ }
+    ensures held { λ r. ⌜ held (r .table) ≡ step (held t) (forgetCall (n .0)) .table ⌝ }
 {
-    let held = t.held;
-    let a = endings::forget(held, n);
-    shut(a)
+    let c = t.cells;
+    let l = plain::forget(c, n);
+    let d = l.cells;
+    let a = l.answer;
+    Answered {
+        table: Table { cells: d },
+        answer: a,
+    }
 }
 
 pub fn sweep(t: Table) -> Answered
     ensures answer { λ r. ⌜ r .answer ≡ answerTo t sweepCall ⌝ }
     ensures table { λ r. ⌜ r .table ≡ tableAfter t sweepCall ⌝ }
+    ensures held { λ r. ⌜ held (r .table) ≡ step (held t) sweepCall .table ⌝ }
 {
-    let held = t.held;
-    let a = sweeps::sweep(held);
-    shut(a)
+    let c = t.cells;
+    let l = plain::sweep(c);
+    let d = l.cells;
+    let a = l.answer;
+    Answered {
+        table: Table { cells: d },
+        answer: a,
+    }
 }
 
 // Has it not been opened yet?
 pub fn is_closed(t: Table) -> bool
-    ensures answer { λ r. ⌜ r ≡ isClosed (t .held) ⌝ }
+    ensures answer { λ r. ⌜ r ≡ isClosed (held t) ⌝ }
 {
-    let held = t.held;
-    held.sites == 0
+    let c = t.cells;
+    cells::sites(&c) == 0
 }
 
 // The kept rows as a ticket table, by slot.
 pub fn kept_rows(t: Table) -> Kept
-    ensures answer { λ r. ⌜ r ≡ packedOf (t .held) ⌝ }
-    ensures whole { λ r. ⌜ length (keptFlat (t .held)) ≡ 9 * r .count ⌝ }
+    ensures answer { λ r. ⌜ r ≡ packedOf (held t) ⌝ }
+    ensures whole { λ r. ⌜ length (keptFlat (held t)) ≡ 9 * r .count ⌝ }
 {
-    let held = t.held;
-    kept::packed::rows(held)
+    let c = t.cells;
+    kept::packed::rows(&c)
 }
 
 // How many sites a transaction uses: 0 for a number that the table does not know.
 pub fn sites_used(t: Table, n: Number) -> u32
-    ensures answer { λ r. ⌜ r ≡ usedBy (t .held) (n .0) ⌝ }
+    ensures answer { λ r. ⌜ r ≡ usedBy (held t) (n .0) ⌝ }
 {
-    let held = t.held;
-    match slots::enter(held, n) {
-        Gate::Refused(_) => 0,
-        Gate::At(slot) => {
-            let row = held.rows[slot];
-            let x = row.sites;
-            sites::used(x)
-        }
-    }
+    let c = t.cells;
+    slots::sites_used(&c, n)
 }

@@ -3,33 +3,31 @@
 //
 // A record has a kind, a length of two bytes and as many bytes more: kind 0 is a label, which is written as it is and makes
 // the table a closed one; any other kind is a stream, whole.
-ghost use Prim.Native.Nat.{_≤_};
-ghost use lib.ListN.{length};
+use cells::CELLS;
+use cells::Cells;
 use libc::STDIN_FILENO;
 use libc::STDOUT_FILENO;
-use table::Table;
 
-fn run(t: Table, stream: &[u8], out: &mut [u8]) -> Table {
-    let r = turns::take_turn(t, stream, true, out);
+fn run(c: &mut Cells, stream: &[u8], out: &mut [u8]) {
+    let r = turns::take_turn(c, stream, true, out);
     let written = r.written;
     io::write_all(STDOUT_FILENO, &out[..written]);
-    r.table
 }
 
-fn label(text: &[u8]) -> Table {
+fn label(c: &mut Cells, text: &[u8]) {
     io::write_all(STDOUT_FILENO, text);
-    table::closed()
+    cells::clear(c);
 }
 
-fn play(t: Table, kind: u8, bytes: &[u8], out: &mut [u8]) -> Table {
+fn play(c: &mut Cells, kind: u8, bytes: &[u8], out: &mut [u8]) {
     if kind == 0 {
-        return label(bytes);
+        label(c, bytes);
+        return;
     }
-    run(t, bytes, out)
+    run(c, bytes, out);
 }
 
-fn records(input: &[u8], out: &mut [u8]) {
-    let mut table = table::closed();
+fn records(c: &mut Cells, input: &[u8], out: &mut [u8]) {
     let mut at: usize = 0;
     while at + 3 <= input.len() {
         let head = &input[at..];
@@ -38,7 +36,7 @@ fn records(input: &[u8], out: &mut [u8]) {
         if head.len() < 3 + n {
             return;
         }
-        table = play(table, kind, &head[3..3 + n], out);
+        play(c, kind, &head[3..3 + n], out);
         at += 3 + n;
     }
 }
@@ -46,6 +44,7 @@ fn records(input: &[u8], out: &mut [u8]) {
 fn main() {
     let mut input = io::large_buffer();
     let mut out = io::large_buffer();
+    let mut table: Cells = [0; CELLS];
     let n = io::read_full(STDIN_FILENO, &mut input);
-    records(&input[..n], &mut out);
+    records(&mut table, &input[..n], &mut out);
 }

@@ -2,17 +2,17 @@
 use mathlib.Core.Path.{_≡_, refl, sym, _∙_, ap}
 use mathlib.Core.Bool.{Bool, true, false, cond, _&&_, true≢false}
 use mathlib.Core.List.{List, [], _∷_, _++_, append-assoc, append-nil}
-use Prim.Native.Nat.{ℕ, zero, suc, _+_, _-_}
+use Prim.Native.Nat.{ℕ, _+_, _-_}
 use native.Mathlib.Omega.{arith}
 use lib.ListN.{length, drop}
 use lib.Seq.{drop-drop, drop-at}
-use Rattle.lines.specs.Line.{Line, lineBytes, refusedLine}
+use Rattle.lines.specs.Line.{lineBytes}
 use Rattle.lines.specs.Reading.{outputBytes}
 use Rattle.frames.specs.Stream.{Stream, ended, cutOff, framed, streamOf, continued, bytesOf, WellFormed}
 use Rattle.frames.specs.Frame.{frameOf}
 use Rattle.frames.proofs.StreamLaws.{stream-of-append, stream-is, bytes-of-stream, well-formed-stream}
 use Rattle.method.specs.declared.Table.{Table}
-use Rattle.replies.specs.Desk.{deskBody}
+use Rattle.replies.specs.Desk.{deskBody, callsOf}
 use Rattle.turns.specs.Lines.{linesOf, answerTo}
 use Rattle.turns.specs.Turn.{Turned, turn, roomy, stops, ends, behind, eleven}
 use Rattle.turns.specs.Pieces.{joined, inPieces}
@@ -34,7 +34,7 @@ drop-frame b xs u =
     let e : length (frameOf b) ≡ 3 + length b = omega arith in
     sym (drop-drop u (3 + length b) (frameOf b ++ xs)) ∙ ap (drop u) (drop-at (frameOf b) xs (3 + length b) e)
 
-still-behind : (b xs m w : List ℕ) (r : Turned) → still (behind (3 + length b) w r) (frameOf b ++ xs) m ≡ still r xs m
+still-behind : (b xs m w : List ℕ) (r : Turned) → still (behind (callsOf b) (3 + length b) w r) (frameOf b ++ xs) m ≡ still r xs m
 still-behind b xs m w r = ap (λ l. cond (r .over) [] (answerTo (r .table) (l ++ m))) (drop-frame b xs (r .used))
 
 -- the law of a turn, over the stream
@@ -65,10 +65,10 @@ turned-rest last m h (framed b s) w t left = go (roomy left) (turned-rest last m
     r = turn last t′ (left - length bytes) s
 
     go : (z : Bool) → output t′ (continued s m) ≡ r .written ++ still r (bytesOf s) m
-        → bytes ++ output t′ (continued s m) ≡ cond z (behind (3 + length b) bytes r) (stops t) .written ++ still (cond z (behind (3 + length b) bytes r) (stops t)) (frameOf b ++ bytesOf s) m
+        → bytes ++ output t′ (continued s m) ≡ cond z (behind (callsOf b) (3 + length b) bytes r) (stops t) .written ++ still (cond z (behind (callsOf b) (3 + length b) bytes r) (stops t)) (frameOf b ++ bytesOf s) m
     go true e =
         ap (λ l. bytes ++ l) (e ∙ ap (λ l. r .written ++ l) (sym (still-behind b (bytesOf s) m bytes r)))
-        ∙ sym (append-assoc bytes (r .written) (still (behind (3 + length b) bytes r) (frameOf b ++ bytesOf s) m))
+        ∙ sym (append-assoc bytes (r .written) (still (behind (callsOf b) (3 + length b) bytes r) (frameOf b ++ bytesOf s) m))
     go false e = sym (ap (output t) (stream-again (framed b s) w m))
 
 -- the same over bytes: what is written at once is what this turn writes, and then what is written for the rest

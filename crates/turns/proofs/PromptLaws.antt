@@ -12,7 +12,7 @@ use Rattle.frames.specs.Frame.{Cut, frameOf}
 use Rattle.frames.specs.Stream.{Stream, ended, cutOff, framed, streamOf, bytesOf, WellFormed}
 use Rattle.frames.proofs.StreamLaws.{bytes-of-stream, well-formed-stream}
 use Rattle.method.specs.declared.Table.{Table}
-use Rattle.replies.specs.Desk.{deskBody}
+use Rattle.replies.specs.Desk.{deskBody, callsOf}
 use Rattle.turns.specs.Turn.{Turned, turn, roomy, stops, ends, behind}
 use Rattle.turns.proofs.PieceLaws.{drop-frame}
 
@@ -45,12 +45,12 @@ turned-stops last (framed b s) w t left e = go (roomy left) refl e (turned-stops
     r : Turned
     r = turn last t′ (left - length bytes) s
 
-    go : (z : Bool) → roomy left ≡ z → cond z (behind (3 + length b) bytes r) (stops t) .over ≡ false → (r .over ≡ false → Stopped last (left - length bytes) r (bytesOf s))
-        → Stopped last left (cond z (behind (3 + length b) bytes r) (stops t)) (frameOf b ++ bytesOf s)
+    go : (z : Bool) → roomy left ≡ z → cond z (behind (callsOf b) (3 + length b) bytes r) (stops t) .over ≡ false → (r .over ≡ false → Stopped last (left - length bytes) r (bytesOf s))
+        → Stopped last left (cond z (behind (callsOf b) (3 + length b) bytes r) (stops t)) (frameOf b ++ bytesOf s)
     go false p e h = inl (leb-false 358 left p)
     go true p e h = rest (h e)
       where
-        rest : Stopped last (left - length bytes) r (bytesOf s) → Stopped last left (behind (3 + length b) bytes r) (frameOf b ++ bytesOf s)
+        rest : Stopped last (left - length bytes) r (bytesOf s) → Stopped last left (behind (callsOf b) (3 + length b) bytes r) (frameOf b ++ bytesOf s)
         rest (inl l) = inl (omega (arith, length-append bytes (r .written)))
         rest (inr m) = inr (rw (drop-frame b (bytesOf s) (r .used)) m)
 

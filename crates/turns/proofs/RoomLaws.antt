@@ -13,12 +13,12 @@ use Rattle.lines.proofs.LineLaws.{length-line-le}
 use Rattle.lines.proofs.WritingLaws.{written-of-358}
 use Rattle.turns.specs.Turn.{eleven}
 use Rattle.method.specs.declared.Table.{Table}
-use Rattle.replies.specs.Desk.{deskBody}
-use Rattle.desk.specs.Served.{servedTable, servedCount, servedOut, bytesFor}
+use Rattle.replies.specs.Desk.{deskBody, callsOf}
+use Rattle.desk.specs.Served.{servedCalls, servedTable, servedCount, servedOut, bytesFor}
 
 pub served-room : (t : Table) (b out : List ℕ) (place : ℕ) → place + 358 ≤ length out
-    → (servedTable t b out place ≡ deskBody t b .0) × (servedCount t b out place ≡ length (bytesFor t b)) × (servedOut t b out place ≡ laid out place (bytesFor t b))
-served-room t b out place h = let e = le-leb (place + 358) (length out) h in (rw e, rw e, rw e)
+    → (servedCalls b out place ≡ callsOf b) × (servedTable t b out place ≡ deskBody t b .0) × (servedCount t b out place ≡ length (bytesFor t b)) × (servedOut t b out place ≡ laid out place (bytesFor t b))
+served-room t b out place h = let e = le-leb (place + 358) (length out) h in (rw e, rw e, rw e, rw e)
 
 -- the last line, where there is room
 pub eleven-room : (out : List ℕ) (place : ℕ) → place + 358 ≤ length out

@@ -1,8 +1,7 @@
 -- The code's turn, from its parts.
 use mathlib.Core.Bool.{Bool}
 use Prim.Native.Nat.{ℕ}
-use Rattle.table.specs.declared.Table.{Table}
 use Rattle.turns.specs.declared.Turn.{Turn}
 
-abbrev pub turnOf : Table → ℕ → ℕ → Bool → Turn
-turnOf t u w o = record { table = t; used = u; written = w; over = o }
+abbrev pub turnOf : ℕ → ℕ → Bool → Turn
+turnOf u w o = record { used = u; written = w; over = o }

@@ -1,11 +1,10 @@
 // The reader and the writer of messages, the writer of lines, and what the service does with a message and with a turn.
 ghost use Rattle.promises.specs.Contracts.{BodyGives, FrameGives, ReadGives, MessageGives, LineGives, OrderGives, ReplyGives, ServeGives, TurnGives};
-use desk::Served;
+use cells::Cells;
 use frames::FrameAnswer;
 use lines::Words;
-use replies::Replied;
+use replies::Due;
 use sending::WriteAnswer;
-use table::Table;
 use turns::Turn;
 use wire::reader::BodyAnswer;
 use wire::reader::ReadAnswer;
@@ -46,20 +45,20 @@ fn write_order(numbers: &[u32], count: usize, out: &mut [u8], place: usize) -> u
     lines::write_order(numbers, count, out, place)
 }
 
-fn reply(t: Table, body: &[u8]) -> Replied
-    ensures gives { λ r. ⌜ ReplyGives t (now (body .entry)) r ⌝ }
+fn reply(c: &mut Cells, body: &[u8]) -> Due
+    ensures gives { λ r. ⌜ ReplyGives (now (c .entry)) (now (body .entry)) (now (c .exit)) r ⌝ }
 {
-    replies::reply(t, body)
+    replies::reply(c, body)
 }
 
-fn serve(t: Table, body: &[u8], out: &mut [u8], place: usize) -> Served
-    ensures gives { λ r. ⌜ ServeGives t (now (body .entry)) (now (out .entry)) place r (now (out .exit)) ⌝ }
+fn serve(c: &mut Cells, body: &[u8], out: &mut [u8], place: usize) -> usize
+    ensures gives { λ r. ⌜ ServeGives (now (c .entry)) (now (body .entry)) (now (out .entry)) place (now (c .exit)) r (now (out .exit)) ⌝ }
 {
-    desk::serve(t, body, out, place)
+    desk::serve(c, body, out, place)
 }
 
-fn take_turn(t: Table, input: &[u8], last: bool, out: &mut [u8]) -> Turn
-    ensures gives { λ r. ⌜ TurnGives t (now (input .entry)) last (now (out .entry)) r (now (out .exit)) ⌝ }
+fn take_turn(c: &mut Cells, input: &[u8], last: bool, out: &mut [u8]) -> Turn
+    ensures gives { λ r. ⌜ TurnGives (now (c .entry)) (now (input .entry)) last (now (out .entry)) (now (c .exit)) r (now (out .exit)) ⌝ }
 {
-    turns::take_turn(t, input, last, out)
+    turns::take_turn(c, input, last, out)
 }

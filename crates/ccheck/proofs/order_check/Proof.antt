@@ -1,5 +1,5 @@
 -- `ccheck::order_check` meets its contract: the rows stand as numbers in the front of the local array. Assumes nothing.
-use mathlib.Core.Path.{_≡_, sym, ap, _∙_}
+use mathlib.Core.Path.{sym, ap, _∙_}
 use native.Mathlib.Omega.{arith}
 use lib.ListN.{replicate}
 use denote.Ref.{now}

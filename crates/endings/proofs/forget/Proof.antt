@@ -1,26 +1,54 @@
--- `endings::forget` meets its contract: past the gate two checks are left, the second of two parts. Assumes nothing.
-use mathlib.Core.Path.{_≡_, sym, _∙_}
+-- `endings::forget` meets its contract: past the gate two checks are left, of which the code makes three. Assumes nothing.
+use mathlib.Core.Path.{_≡_, refl, sym, ap, _∙_}
 use mathlib.Core.Bool.{Bool, not}
 use mathlib.Core.List.{List, [], _∷_}
 use Prim.Native.Nat.{ℕ}
-use native.Mathlib.Omega.{arith}
-use lib.ListN.{length}
-use borrow.Author.Needs.{needs}
 use Rattle.method.specs.declared.Table.{Table}
-use Rattle.slots.specs.declared.Gate.{Gate}
-use Rattle.method.specs.Records.{committed}
+use Rattle.method.specs.Records.{committed, rowAt, freeRow}
 use Rattle.method.specs.Slots.{rowOfNumber}
-use Rattle.method.specs.Conditions.{mayNotForget}
-use Rattle.slots.specs.Gate.{gateOf}
-use Rattle.method.specs.Calls.{checks}
-use Rattle.method.specs.Effects.{act, effect, step}
-use Rattle.method.proofs.SearchLaws.{unmapped}
+use Rattle.method.specs.Calls.{checks, firstTrue}
+use Rattle.method.specs.Conditions.{hasPred, heldBack, mayNotForget}
+use Rattle.method.specs.Calls.Call.{forget}
+use Rattle.slots.proofs.WantedLaws.{pred-wanted, held-wanted}
+use Rattle.method.specs.Effects.{effect}
 use Rattle.slots.proofs.GateLaws.{Passed, gate-refused, gate-passed}
+use Rattle.cells.specs.Layout.{tableFrom}
+use Rattle.cells.specs.Puts.{putRow}
+use Rattle.cells.specs.After.{cellsEffect}
+use Rattle.cells.proofs.TableLaws.{slots-of-cells}
+use Rattle.cells.proofs.AfterLaws.{stopped-cells, done-cells}
+use borrow.Author.Needs.{needs}
 use Rattle.endings.proofs.forget.Statement.{statement}
 use Rattle.endings.proofs.forget.Tie as tie
 
 abbrev rest : Table → ℕ → List (ℕ × Bool)
 rest t n = (4, not (committed (rowOfNumber t n))) ∷ (9, mayNotForget t (rowOfNumber t n)) ∷ []
+
+-- past the gate
+module _ (c : tie.After-known-told2) where
+  abbrev cells : List ℕ
+  cells = c .before .before .before .before .before .args .c .now
+
+  abbrev n : ℕ
+  n = c .before .before .before .before .before .args .n .0
+
+  passed : Passed (tableFrom cells) n (c .before .slot .given .0 .0) (rest (tableFrom cells) n)
+  passed = gate-passed (tableFrom cells) (slots-of-cells cells) n (c .before .slot .given .0 .0) (rest (tableFrom cells) n) (sym (c .before .before .before .enter .ensures) ∙ c .before .slot .given .1)
+
+-- the checks behind the gate, as the code makes them
+on-kept : (c : tie.After-is-committed) → let g = c .before .before in firstTrue (checks (tableFrom (cells g)) (forget (n g))) ≡ firstTrue ((4, not (c .is-committed .result)) ∷ (9, mayNotForget (tableFrom (cells g)) (rowOfNumber (tableFrom (cells g)) (n g))) ∷ [])
+unfolding checks
+on-kept c = let p = passed (c .before .before) in p .on ∙ rw (sym (p .slot), sym (c .is-committed .ensures))
+
+on-pred : (c : tie.After-has) → let g = c .before .before .before .before .before in hasPred (tableFrom (cells g)) (rowOfNumber (tableFrom (cells g)) (n g)) ≡ c .has .result
+on-pred c =
+    let g = c .before .before .before .before .before in
+    ap (λ (i : ℕ). hasPred (tableFrom (cells g)) (rowAt (tableFrom (cells g)) i)) (sym (passed g .slot)) ∙ pred-wanted (tableFrom (cells g)) (c .before .before .before .before .before .before .slot .given .0 .0) ∙ sym (c .has .ensures)
+
+on-held : (c : tie.After-has2) → let g = c .before .before .before .before .before .before .before .before .before .before in heldBack (tableFrom (cells g)) (rowOfNumber (tableFrom (cells g)) (n g)) ≡ c .has2 .result
+on-held c =
+    let g = c .before .before .before .before .before .before .before .before .before .before in
+    ap (λ (i : ℕ). heldBack (tableFrom (cells g)) (rowAt (tableFrom (cells g)) i)) (sym (passed g .slot)) ∙ held-wanted (tableFrom (cells g)) (rowAt (tableFrom (cells g)) (c .before .before .before .before .before .before .before .before .before .before .before .slot .given .0 .0)) (c .before .before .last-at .result) (c .before .before .last-at .ensures) ∙ sym (c .has2 .ensures)
 
 enter-requires : tie.Need-enter-requires
 enter-requires c κs = search needs
@@ -28,115 +56,40 @@ enter-requires c κs = search needs
 enum-known-k : tie.Need-enum-known-k
 enum-known-k c = c .match .keys1
 
-refuse-requires : tie.Need-refuse-requires
-refuse-requires c κs = search needs
-
 enum-known-slot : tie.Need-enum-known-slot
 enum-known-slot c = c .match .keys2
-
--- past the gate
-module _ (c : tie.After-known-told2) where
-  abbrev t : Table
-  t = c .before .before .before .before .args .t1
-
-  abbrev n : ℕ
-  n = c .before .before .before .before .args .n .0
-
-  passed : Passed t n (c .before .slot .given .0 .0) (rest t n)
-  passed =
-      let l : length (t .rows) ≡ 32 = search (needs, unmapped) in
-      let e : gateOf t n ≡ Gate.At (c .before .slot .given .0 .0) = sym (c .before .before .before .enter .ensures) ∙ c .before .slot .given .1 in
-      gate-passed t l n (c .before .slot .given .0 .0) (rest t n) e
-
-mul-row : tie.Need-mul-row
-mul-row c = omega (arith, passed c .inside)
-
-element-copy-out-row : tie.Need-element-copy-out-row
-element-copy-out-row c = passed c .inside
 
 is-committed-requires : tie.Need-is-committed-requires
 is-committed-requires c κs = search needs
 
-refuse-requires-2 : tie.Need-refuse-requires-2
-refuse-requires-2 c κs = search needs
-
 returns : tie.Need-returns
-unfolding step act checks
-returns c =
-    let p = passed (c .before .before .before .before) in
-    c .refuse2 .ensures ∙ sym (rw (p .on, sym (p .slot), sym (c .before .before .is-committed .ensures), c .before .if1 .taken))
+returns c = stopped-cells _ _ 4 (on-kept (c .before) ∙ rw (c .if1 .taken))
 
-has-pred-requires : tie.Need-has-pred-requires
-has-pred-requires c κs = search needs
-
-refuse-requires-3 : tie.Need-refuse-requires-3
-refuse-requires-3 c κs = search needs
+has-requires : tie.Need-has-requires
+has-requires c κs = search needs
 
 returns-2 : tie.Need-returns-2
-unfolding step act checks
-returns-2 c =
-    let q = c .before .before in
-    let s = q .before in
-    let p = passed (s .before .before .before) in
-    c .refuse3 .ensures
-    ∙ sym (rw (p .on, sym (p .slot), sym (s .before .is-committed .ensures), s .if1 .left, sym (q .has-pred .ensures), c .before .if2 .taken))
+returns-2 c = stopped-cells _ _ 9 (on-kept (c .before .before .before .before) ∙ rw (c .before .before .before .if1 .left, on-pred (c .before) ∙ c .if2 .taken))
 
-is-held-back-requires : tie.Need-is-held-back-requires
-is-held-back-requires c κs = search needs
+last-at-requires : tie.Need-last-at-requires
+last-at-requires c κs = search needs
 
-refuse-requires-4 : tie.Need-refuse-requires-4
-refuse-requires-4 c κs = search needs
+has-requires-2 : tie.Need-has-requires-2
+has-requires-2 c κs = search needs
 
 returns-3 : tie.Need-returns-3
-unfolding step act checks
-returns-3 c =
-    let h = c .before .before in
-    let q = h .before .before in
-    let s = q .before in
-    let p = passed (s .before .before .before) in
-    c .refuse4 .ensures
-    ∙ sym (rw (p .on, sym (p .slot), sym (s .before .is-committed .ensures), s .if1 .left, sym (q .has-pred .ensures), h .before .if2 .left, sym (h .is-held-back .ensures), c .before .if3 .taken))
+returns-3 c = stopped-cells _ _ 9 (on-kept (c .before .before .before .before .before .before .before .before .before) ∙ rw (c .before .before .before .before .before .before .before .before .if1 .left, on-pred (c .before .before .before .before .before .before) ∙ c .before .before .before .before .before .if2 .left, on-held (c .before) ∙ c .if3 .taken))
 
-without-requires : tie.Need-without-requires
-without-requires c κs = search needs
+free-slot-requires : tie.Need-free-slot-requires
+free-slot-requires c κs = search needs
 
 returns-4 : tie.Need-returns-4
-unfolding step act checks
-returns-4 c =
-    let g = c .before .before .before .before in
-    let a = g .before .args in
-    let e : gateOf (a .t1) (a .n .0) ≡ Gate.Refused (c .before .before .k .given .0 .0) = sym (g .enter .ensures) ∙ c .before .before .k .given .1 in
-    c .refuse .ensures ∙ sym (rw (gate-refused (a .t1) (a .n .0) _ (rest (a .t1) (a .n .0)) e))
+unfolding checks
+returns-4 c = let a = c .before .before .before .before .before .args in stopped-cells _ _ _ (gate-refused (tableFrom (a .c .now)) (a .n .0) _ (rest (tableFrom (a .c .now)) (a .n .0)) (sym (c .before .before .before .enter .ensures) ∙ c .before .k .given .1))
 
 returns-5 : tie.Need-returns-5
-unfolding step act checks effect
-returns-5 c =
-    let h = c .before .before in
-    let q = h .before .before in
-    let s = q .before in
-    let p = passed (s .before .before .before) in
-    c .without .ensures
-    ∙ sym (rw (p .on, sym (p .slot), sym (s .before .is-committed .ensures), s .if1 .left, sym (q .has-pred .ensures), h .before .if2 .left, sym (h .is-held-back .ensures), c .before .if3 .left) (rw (p .slot)))
+unfolding effect cellsEffect
+returns-5 c = let g = c .before .before .before .before .before .before .before .before .before .before .before .before .before in done-cells _ _ (on-kept (c .before .before .before .before .before .before .before .before .before .before .before) ∙ rw (c .before .before .before .before .before .before .before .before .before .before .if1 .left, on-pred (c .before .before .before .before .before .before .before .before) ∙ c .before .before .before .before .before .before .before .if2 .left, on-held (c .before .before .before) ∙ c .before .before .if3 .left)) _ refl _ (c .free-slot .ensures ∙ ap (λ (i : ℕ). putRow (cells g) i freeRow) (passed g .slot))
 
 pub forget-spec : {M : Type 1} → statement M
-forget-spec =
-    tie.close
-    (tie.spec
-    enter-requires
-    enum-known-k
-    refuse-requires
-    enum-known-slot
-    mul-row
-    element-copy-out-row
-    is-committed-requires
-    refuse-requires-2
-    returns
-    has-pred-requires
-    refuse-requires-3
-    returns-2
-    is-held-back-requires
-    refuse-requires-4
-    returns-3
-    without-requires
-    returns-4
-    returns-5)
+forget-spec = tie.close (tie.spec enter-requires enum-known-k enum-known-slot is-committed-requires returns has-requires returns-2 last-at-requires has-requires-2 returns-3 free-slot-requires returns-4 returns-5)

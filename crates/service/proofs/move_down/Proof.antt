@@ -1,6 +1,6 @@
 -- `service::move_down` meets its contract: after k turns the first k bytes are moved. Assumes nothing.
 use mathlib.Core.Path.{_≡_, refl, _∙_, ap}
-use Prim.Native.Nat.{_+_, _-_, _≤_}
+use Prim.Native.Nat.{_-_, _≤_}
 use native.Mathlib.Omega.{arith}
 use lib.ListN.{length, length-set, take, drop, length-drop}
 use lib.Seq.{paste, paste-zero, length-take-le}

@@ -1,53 +1,34 @@
--- `sweeps::cleared` meets its contract: after i turns the first i rows are as they will be, and those that went are counted.
--- Assumes nothing.
-use mathlib.Core.Path.{_≡_, refl}
-use mathlib.Core.Bool.{false}
+-- `sweeps::cleared` meets its contract: what the marks from i on would free is what is left to free. Assumes nothing.
+use mathlib.Core.Path.{_≡_, refl, sym, ap, _∙_}
+use mathlib.Core.Logic.{⊎-elim}
 use Prim.Native.Nat.{_-_, _<_, _≤_}
 use native.Mathlib.Omega.{arith}
-use lib.ListN.{length, getD}
+use lib.ListN.{length, take, drop}
+use lib.Seq.{take-all}
+use Rattle.cells.specs.Puts.{freeMarked}
+use Rattle.sweeps.specs.Marks.{marked}
+use Rattle.sweeps.proofs.SweepLaws.{freed-more, freed-end, marked-more}
 use borrow.Author.Needs.{needs}
-use Rattle.method.specs.Records.{pastEnd, rowAt, withRows}
-use Rattle.method.specs.Effects.{sweptRow}
-use Rattle.method.proofs.SearchLaws.{unmapped}
-use Rattle.sweeps.specs.Marks.{goes, StayMarks}
-use Rattle.sweeps.proofs.SweepLaws.{replaced, replaced-by-mark, passing, counted-by-mark, goesIn, one-le, swept-all}
 use Rattle.sweeps.proofs.cleared.Statement.{statement}
 use Rattle.sweeps.proofs.cleared.Tie as tie
 
 abbrev Inv-loop : tie.InvT-loop
-Inv-loop t stay u₀ n₀ i₀ u n i =
-    (i ≤ 32) × (n ≤ i) × (u ≡ withRows t (replaced (sweptRow t) pastEnd (t .rows) i)) × (n ≡ passing (goesIn t) pastEnd (t .rows) i)
-    × (length (t .rows) ≡ 32) × StayMarks t stay
+Inv-loop c₀ marks n₀ i₀ c n i = (i ≤ 32) × (n ≤ i) × (freeMarked c₀ 0 marks ≡ freeMarked c i (drop i marks)) × (n ≡ marked (take i marks)) × (length marks ≡ 32)
 
 abbrev μ-loop : tie.MeasureT-loop
-μ-loop t stay u₀ n₀ i₀ u n i = 32 - i
+μ-loop c₀ marks n₀ i₀ c n i = 32 - i
 
 loop-holds : tie.Need-loop-holds Inv-loop μ-loop
-loop-holds c = (search needs, search needs, refl, refl, search (needs, unmapped), search needs)
+loop-holds c = (search needs, search needs, refl, refl, search needs)
 
-mul-row : tie.Need-mul-row Inv-loop μ-loop
-mul-row c = search needs
+array-read-if1 : tie.Need-array-read-if1 Inv-loop μ-loop
+array-read-if1 c = search needs
 
-element-copy-out-row : tie.Need-element-copy-out-row Inv-loop μ-loop
-element-copy-out-row c = search needs
-
-array-read-stays : tie.Need-array-read-stays Inv-loop μ-loop
-array-read-stays c = search needs
-
-left-of-requires : tie.Need-left-of-requires Inv-loop μ-loop
-left-of-requires c κs = search needs
-
-mul-rest : tie.Need-mul-rest Inv-loop μ-loop
-mul-rest c = search needs
-
-element-set-from-rest : tie.Need-element-set-from-rest Inv-loop μ-loop
-element-set-from-rest c = search needs
-
-counts-requires : tie.Need-counts-requires Inv-loop μ-loop
-counts-requires c κs = search needs
+free-slot-requires : tie.Need-free-slot-requires Inv-loop μ-loop
+free-slot-requires c κs = search needs
 
 add-n : tie.Need-add-n Inv-loop μ-loop
-add-n c = omega (arith, c .counts .ensures, c .before .before .before .before .loop .inv .1, one-le (goes (rowAt (c .before .before .before .before .before .args .t1) (c .before .before .before .before .loop .i)) (getD (c .before .before .before .before .before .args .t2) (c .before .before .before .before .loop .i) false)))
+add-n c = search needs
 
 add-i : tie.Need-add-i Inv-loop μ-loop
 add-i c = search needs
@@ -56,42 +37,10 @@ loop-less : tie.Need-loop-less Inv-loop μ-loop
 loop-less c = search needs
 
 loop-again : tie.Need-loop-again Inv-loop μ-loop
-loop-again c =
-    let l = c .before .before .before .before in
-    let t = l .before .args .t1 in
-    let marks = l .before .args .t2 in
-    let i = l .loop .i in
-    let h : i < 32 = omega arith in
-    let v = l .loop .inv in (
-      search needs,
-      omega (arith, c .counts .ensures, v .1, one-le (goes (rowAt t i) (getD marks i false))),
-      replaced-by-mark t marks (v .5) i h (v .4) (l .loop .u) (c .before .left-of .result) (v .2) (c .before .left-of .ensures),
-      counted-by-mark t marks (v .5) i h (v .4) (l .loop .n) (c .counts .result) (v .3) (c .counts .ensures),
-      v .4,
-      v .5,
-    )
+loop-again c = let l = c .before .before in let v = l .loop .inv in let i = l .loop .i in let bs = c .before .before .before .args .t2 in let h : i < length bs = omega (arith, v .4) in let m = marked-more bs i h in let f = freed-more bs i h (l .loop .c) in ⊎-elim (λ w. (search needs, rw (w .4) (omega (arith, v .1)), rw (w .3, w .2 .ensures) (v .2 ∙ rw (w .0 .taken) at f), rw (w .4) (omega (arith, v .3, rw (w .0 .taken) at m)), v .4)) (λ w. (search needs, rw (w .2) (omega (arith, v .1)), rw (w .1) (v .2 ∙ rw (w .0 .left) at f), rw (w .2) (omega (arith, v .3, rw (w .0 .left) at m)), v .4)) (c .if1 .came)
 
 returns : tie.Need-returns Inv-loop μ-loop
-returns c =
-    let l = c .before in
-    swept-all (l .before .args .t1) (l .loop .u) (l .loop .n) (l .loop .i) (l .loop .inv .4) (c .loop-test .left) (l .loop .inv .2) (l .loop .inv .3)
+returns c = let l = c .before in let v = l .loop .inv in let bs = c .before .before .args .t2 in let e : length bs ≤ l .loop .i = omega (arith, v .4, c .loop-test .left) in (v .3 ∙ ap marked (take-all (l .loop .i) bs e), sym (v .2 ∙ freed-end bs (l .loop .i) (l .loop .c) e))
 
 pub cleared-spec : {M : Type 1} → statement M
-cleared-spec =
-    tie.close
-    (tie.spec
-    Inv-loop
-    μ-loop
-    loop-holds
-    mul-row
-    element-copy-out-row
-    array-read-stays
-    left-of-requires
-    mul-rest
-    element-set-from-rest
-    counts-requires
-    add-n
-    add-i
-    loop-less
-    loop-again
-    returns)
+cleared-spec = tie.close (tie.spec Inv-loop μ-loop loop-holds array-read-if1 free-slot-requires add-n add-i loop-less loop-again returns)

@@ -1,17 +1,23 @@
 -- `sweeps::sweep` meets its contract. Assumes nothing.
-use mathlib.Core.Path.{_≡_, sym, _∙_}
-use lib.ListN.{length}
+use mathlib.Core.Path.{sym, ap, _∙_}
+use Rattle.method.specs.declared.Answer.{Answer}
+use Rattle.method.specs.Effects.{effect}
+use Rattle.cells.specs.Layout.{tableFrom}
+use Rattle.cells.specs.Puts.{freeMarked}
+use Rattle.cells.specs.After.{cellsEffect}
+use Rattle.cells.proofs.TableLaws.{slots-of-cells}
+use Rattle.cells.proofs.AfterLaws.{stopped-cells, done-cells}
+use Rattle.sweeps.specs.Marks.{marked}
+use Rattle.sweeps.proofs.SweepLaws.{swept-count, sweep-closed, sweep-open, stay-marks}
 use borrow.Author.Needs.{needs}
-use Rattle.method.proofs.SearchLaws.{unmapped}
-use Rattle.sweeps.proofs.SweepLaws.{sweep-closed, sweep-open, stay-marks}
 use Rattle.sweeps.proofs.sweep.Statement.{statement}
 use Rattle.sweeps.proofs.sweep.Tie as tie
 
-refuse-requires : tie.Need-refuse-requires
-refuse-requires c κs = search needs
+sites-requires : tie.Need-sites-requires
+sites-requires c κs = search needs
 
 returns : tie.Need-returns
-returns c = c .refuse .ensures ∙ sym (sweep-closed (c .before .before .before .args .t) (c .before .if1 .taken))
+returns c = let d = c .before .before .before .args .c .now in stopped-cells _ _ 1 (sweep-closed (tableFrom d) (sym (c .before .sites .ensures) ∙ c .if1 .taken))
 
 tickets-requires : tie.Need-tickets-requires
 tickets-requires c κs = search needs
@@ -22,14 +28,15 @@ held-requires c κs = search needs
 reached-requires : tie.Need-reached-requires
 reached-requires c κs = search needs
 
+going-requires : tie.Need-going-requires
+going-requires c κs = let d = c .before .before .before .before .before .before .before .before .before .args .c .now in stay-marks (tableFrom d) (slots-of-cells d) (c .before .before .before .before .tickets .result) (c .before .before .before .before .tickets .ensures) (c .before .before .held .result) (c .before .before .held .ensures) (c .before .reached .result) (c .before .reached .ensures)
+
 cleared-requires : tie.Need-cleared-requires
-cleared-requires c κs =
-    let t = c .before .before .before .before .before .args .t in
-    let l : length (t .rows) ≡ 32 = search (needs, unmapped) in
-    stay-marks t l (c .before .before .tickets .result) (c .before .before .tickets .ensures) (c .before .held .result) (c .before .held .ensures) (c .reached .result) (c .reached .ensures)
+cleared-requires c κs = search needs
 
 returns-2 : tie.Need-returns-2
-returns-2 c = c .cleared .ensures ∙ sym (sweep-open (c .before .before .before .before .before .before .args .t) (c .before .before .before .before .if1 .left))
+unfolding effect cellsEffect
+returns-2 c = let d = c .before .before .before .before .before .before .before .before .before .before .before .before .args .c .now in done-cells _ _ (sweep-open (tableFrom d) (λ q. c .before .before .before .before .before .before .before .before .before .if1 .left (c .before .before .before .before .before .before .before .before .before .before .sites .ensures ∙ q))) _ (ap (λ n. Answer.Swept n) (c .cleared .ensures .0 ∙ ap marked (c .before .before .going .ensures) ∙ swept-count (tableFrom d))) _ (c .cleared .ensures .1 ∙ ap (freeMarked d 0) (c .before .before .going .ensures))
 
 pub sweep-spec : {M : Type 1} → statement M
-sweep-spec = tie.close (tie.spec refuse-requires returns tickets-requires held-requires reached-requires cleared-requires returns-2)
+sweep-spec = tie.close (tie.spec sites-requires returns tickets-requires held-requires reached-requires going-requires cleared-requires returns-2)

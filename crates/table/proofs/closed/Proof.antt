@@ -1,15 +1,13 @@
 -- `table::closed` meets its contract. Assumes nothing.
-use mathlib.Core.Path.{ap}
-use borrow.Author.Needs.{needs}
-use Rattle.table.specs.Shut.{shutTable}
+use mathlib.Core.Path.{refl}
+use Rattle.cells.specs.Puts.{zeros}
+use Rattle.cells.proofs.HeadLaws.{table-of-zeros}
 use Rattle.table.proofs.closed.Statement.{statement}
 use Rattle.table.proofs.closed.Tie as tie
 
-closed-requires : tie.Need-closed-requires
-closed-requires c κs = search needs
-
 returns : tie.Need-returns
-returns c = ap shutTable (c .closed .ensures)
+unfolding zeros
+returns c = (refl, table-of-zeros)
 
 pub closed-spec : {M : Type 1} → statement M
-closed-spec = tie.close (tie.spec closed-requires returns)
+closed-spec = tie.close (tie.spec returns)

@@ -1,22 +1,17 @@
 -- `trials::records` is safe, and ends: each record takes some bytes. Assumes nothing.
-use mathlib.Core.Path.{_≡_, refl, sym, _∙_}
+use mathlib.Core.Path.{_≡_, refl, _∙_}
 use Prim.Native.Nat.{_-_, _≤_}
 use native.Mathlib.Omega.{arith}
-use lib.ListN.{length, take, drop}
-use denote.Ref.{now}
+use lib.ListN.{length}
 use borrow.Author.Needs.{needs}
-use Rattle.endian.proofs.PartLaws.{part-is}
 use Rattle.trials.proofs.records.Statement.{statement}
 use Rattle.trials.proofs.records.Tie as tie
 
 abbrev Inv-loop : tie.InvT-loop
-Inv-loop input out₀ table₀ at₀ out table at = (at ≤ length input) × (length out ≡ length out₀)
+Inv-loop c₀ input out₀ at₀ c out at = (at ≤ length input) × (length out ≡ length out₀)
 
 abbrev μ-loop : tie.MeasureT-loop
-μ-loop input out₀ table₀ at₀ out table at = length input - at
-
-closed-requires : tie.Need-closed-requires Inv-loop μ-loop
-closed-requires c κs = search needs
+μ-loop c₀ input out₀ at₀ c out at = length input - at
 
 loop-holds : tie.Need-loop-holds Inv-loop μ-loop
 loop-holds c = (omega arith, refl)
@@ -76,7 +71,7 @@ loop-less : tie.Need-loop-less Inv-loop μ-loop
 loop-less c = omega arith
 
 loop-again : tie.Need-loop-again Inv-loop μ-loop
-loop-again c = (omega arith, c .before .before .play .kept .1 .1 .1 .0 ∙ c .before .before .before .before .before .before .before .before .before .before .loop .inv .1)
+loop-again c = (omega arith, c .before .before .play .kept .1 .1 .1 .0 ∙ c .before .before .before .before .before .before .before .before .before .before .before .loop .inv .1)
 
 same-length-2 : tie.Need-same-length-2 Inv-loop μ-loop
 same-length-2 c = c .before .loop .inv .1
@@ -85,31 +80,4 @@ returns-2 : tie.Need-returns-2 Inv-loop μ-loop
 returns-2 c = tt
 
 pub records-spec : {M : Type 1} → statement M
-records-spec =
-    tie.close
-    (tie.spec
-    Inv-loop
-    μ-loop
-    closed-requires
-    loop-holds
-    add-loop
-    sub-head
-    part-head-start
-    part-head-end
-    get8-requires
-    get16-requires
-    cast-n
-    add-if1
-    same-length
-    returns
-    add-play
-    sub-play
-    part-play-start
-    part-play-end
-    play-requires
-    add-at
-    add-at-2
-    loop-less
-    loop-again
-    same-length-2
-    returns-2)
+records-spec = tie.close (tie.spec Inv-loop μ-loop loop-holds add-loop sub-head part-head-start part-head-end get8-requires get16-requires cast-n add-if1 same-length returns add-play sub-play part-play-start part-play-end play-requires add-at add-at-2 loop-less loop-again same-length-2 returns-2)

@@ -9,7 +9,7 @@ use Rattle.trials.proofs.run.Statement.{statement}
 use Rattle.trials.proofs.run.Tie as tie
 
 fits : (c : tie.After-take-turn) → c .take-turn .result .written ≤ length (c .take-turn .last .1 .1 .1 .0)
-fits c = omega (arith, c .take-turn .ensures .1 .1 .1 .1 .1 .1, c .take-turn .kept .1 .1 .1 .0)
+fits c = omega (arith, c .take-turn .ensures .1 .1 .1 .1 .1 .1 .1, c .take-turn .kept .1 .1 .1 .0)
 
 take-turn-requires : tie.Need-take-turn-requires
 take-turn-requires c κs = search needs
@@ -30,6 +30,4 @@ returns : tie.Need-returns
 returns c = search needs
 
 pub run-spec : {M : Type 1} → statement M
-run-spec =
-    tie.close
-    (tie.spec take-turn-requires slice-reshare-prefix-write-all slice-aggregate-write-all write-all-requires same-length returns)
+run-spec = tie.close (tie.spec take-turn-requires slice-reshare-prefix-write-all slice-aggregate-write-all write-all-requires same-length returns)

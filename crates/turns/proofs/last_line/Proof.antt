@@ -1,7 +1,7 @@
 -- `turns::last_line` meets its contract. Assumes nothing.
-use mathlib.Core.Path.{_≡_, sym, _∙_, ap}
+use mathlib.Core.Path.{_≡_, _∙_, ap}
 use mathlib.Core.List.{List}
-use Prim.Native.Nat.{ℕ, _+_, _≤_, _^_}
+use Prim.Native.Nat.{ℕ, _+_, _≤_}
 use native.Mathlib.Omega.{arith}
 use lib.ListN.{length}
 use denote.Ref.{now}
@@ -45,7 +45,7 @@ same-length c = search needs
 returns : tie.Need-returns
 returns c =
     let a = c .before .before .before .before .before .args in
-    (ap (λ n. turnOf (a .table) (a .used) (a .written + n) true) (count c), buffer c)
+    (ap (λ n. turnOf (a .used) (a .written + n) true) (count c), buffer c)
 
 pub last-line-spec : {M : Type 1} → statement M
 last-line-spec = tie.close (tie.spec write-line-requires add-end same-length returns)

@@ -2,9 +2,9 @@
 use mathlib.Core.Path.{_≡_, sym}
 use lib.ListN.{replicate, take, drop}
 use lib.Seq.{length-take-le}
-use borrow.Author.Needs.{needs}
 use Rattle.endian.specs.Bytes.{words}
 use Rattle.replies.proofs.PartsLaws.{words-handed}
+use borrow.Author.Needs.{needs}
 use Rattle.replies.proofs.lists.open.Statement.{statement}
 use Rattle.replies.proofs.lists.open.Tie as tie
 
@@ -26,32 +26,17 @@ get-words-requires c κs = tt
 array-share-prefix-floors : tie.Need-array-share-prefix-floors
 array-share-prefix-floors c = search needs
 
-slice-aggregate-lend-open-with : tie.Need-slice-aggregate-lend-open-with
-slice-aggregate-lend-open-with c = sym (length-take-le _ _ (search needs))
+slice-aggregate-open-with : tie.Need-slice-aggregate-open-with
+slice-aggregate-open-with c = sym (length-take-le _ _ (search needs))
 
-floors-read : (c : tie.After-floors3)
-    → let a = c .before .before .before .before .before .before .args in take (a .n) (c .before .before .get-words .last .1 .0) ≡ words (drop 5 (a .body .now))
-floors-read c =
-    let s = c .before .before .before .before .before .before in
-    let p = s .pre in
-    words-handed (s .args .body .now) (replicate 38 0) _ 5 _ (p .0) (p .1) (p .2) (c .before .before .get-words .ensures .1)
+open-with-requires : tie.Need-open-with-requires
+open-with-requires c κs = tt
 
-lend-open-with-requires : tie.Need-lend-open-with-requires
-lend-open-with-requires c κs = tt
+floors-read : (c : tie.After-floors3) → take (c .before .before .before .before .before .before .before .args .n) (c .before .before .before .get-words .last .1 .0) ≡ words (drop 5 (c .before .before .before .before .before .before .before .args .body .now))
+floors-read c = let p = c .before .before .before .before .before .before .before .pre in words-handed (c .before .before .before .before .before .before .before .args .body .now) (replicate 38 0) _ 5 _ (p .0) (p .1) (p .2) (c .before .before .before .get-words .ensures .1)
 
 returns : tie.Need-returns
-returns c = rw (← floors-read (c .before)) (c .lend-open-with .ensures)
+returns c = rw (← floors-read (c .before)) (c .open-with .ensures)
 
 pub open-spec : {M : Type 1} → statement M
-open-spec =
-    tie.close
-    (tie.spec
-    sub-get-words
-    part-get-words-start
-    part-get-words-end
-    slice-aggregate-get-words
-    get-words-requires
-    array-share-prefix-floors
-    slice-aggregate-lend-open-with
-    lend-open-with-requires
-    returns)
+open-spec = tie.close (tie.spec sub-get-words part-get-words-start part-get-words-end slice-aggregate-get-words get-words-requires array-share-prefix-floors slice-aggregate-open-with open-with-requires returns)

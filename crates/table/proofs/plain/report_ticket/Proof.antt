@@ -1,0 +1,15 @@
+-- `table::plain::report_ticket` meets its contract. Assumes nothing.
+use Rattle.method.specs.Calls.Call.{reportTicket}
+use Rattle.table.proofs.CallLaws.{left-by}
+use borrow.Author.Needs.{needs}
+use Rattle.table.proofs.plain.report_ticket.Statement.{statement}
+use Rattle.table.proofs.plain.report_ticket.Tie as tie
+
+report-ticket-requires : tie.Need-report-ticket-requires
+report-ticket-requires c κs = search needs
+
+returns : tie.Need-returns
+returns c = left-by _ _ (reportTicket (c .before .before .args .n .0) (c .before .before .args .s) (c .before .before .args .k .0)) _ (search needs) tt (c .report-ticket .ensures)
+
+pub report-ticket-spec : {M : Type 1} → statement M
+report-ticket-spec = tie.close (tie.spec report-ticket-requires returns)
