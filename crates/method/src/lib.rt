@@ -2,19 +2,20 @@
 // RULES, The table. No function stands here: the fields are open, so that each group of calls can be a crate of its own;
 // crate `table` shuts them.
 // How many transactions a table holds, and how many sites it can have. RULES, Limits.
+#![tactic(auto)]
 pub const SLOTS: usize = 32;
 
 pub const SITES: usize = 8;
 
 // A number is counted by the table, a ticket by its site: the two are never mixed up.
-#[derive(Drop)]
+#[derive(Clone, Copy)]
 pub struct Number(pub u32);
 
-#[derive(Drop)]
+#[derive(Clone, Copy)]
 pub struct Ticket(pub u32);
 
 // How far one site of a transaction has come.
-#[derive(Drop)]
+#[derive(Clone, Copy)]
 pub enum Stage {
     Begun,
     Ticketed,
@@ -22,19 +23,19 @@ pub enum Stage {
 }
 
 // What a site reports, and what the stage table gives for it: the next stage, or refusal 4.
-#[derive(Drop)]
+#[derive(Clone, Copy)]
 pub enum Report {
     Ticket,
     Prepared,
 }
 
-#[derive(Drop)]
+#[derive(Clone, Copy)]
 pub enum Step {
     To(Stage),
     Refused,
 }
 
-#[derive(Drop)]
+#[derive(Clone, Copy)]
 pub enum State {
     Free,
     Active,
@@ -42,7 +43,7 @@ pub enum State {
 }
 
 // One site of a transaction. Ticket 0 is none.
-#[derive(Drop)]
+#[derive(Clone, Copy)]
 pub struct Part {
     pub stage: Stage,
     pub base: Ticket,
@@ -50,7 +51,7 @@ pub struct Part {
 }
 
 // A slot. `last` is the last number begun when the transaction committed.
-#[derive(Drop)]
+#[derive(Clone, Copy)]
 pub struct Row {
     pub state: State,
     pub number: Number,
@@ -60,7 +61,7 @@ pub struct Row {
 }
 
 // `sites` is 0 in a closed table. `last` is the last number begun, `high` the highest committed ticket of each site.
-#[derive(Drop)]
+#[derive(Clone, Copy)]
 pub struct Table {
     pub sites: u8,
     pub last: Number,
@@ -69,7 +70,7 @@ pub struct Table {
 }
 
 // What a call answers: each refusal by its number in RULES, Refusals.
-#[derive(Drop)]
+#[derive(Clone, Copy)]
 pub enum Answer {
     Done,
     Begun(Number),
@@ -79,7 +80,7 @@ pub enum Answer {
     Refused(u8),
 }
 
-#[derive(Drop)]
+#[derive(Clone, Copy)]
 pub struct Answered {
     pub table: Table,
     pub answer: Answer,

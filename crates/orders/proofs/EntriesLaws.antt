@@ -114,7 +114,7 @@ entries_of_flat_from (r ∷ rs) before i e h =
     let l = h r (here refl) in
     let a = append_assoc before (r.number ∷ r.tickets) (flat_of rs) in
     let k = entries_of_flat_from rs (before ++ (r.number ∷ r.tickets)) (suc i) (simp length-append (omega arith)) (λ q m. h q (there m)) in
-    rw (row_behind before i r.number r.tickets (flat_of rs) e l, sym a, k)
+    rw (row_behind before i r.number r.tickets (flat_of rs) e l) (ap (λ z. r ∷ z) (ap (λ z. entries_from z (suc i) (length rs)) (sym a) ∙ k))
 
 pub entries_of_flat : (rs : List Entry) → ((r : Entry) → r ∈ rs → length r.tickets ≡ 8) → entries_in (flat_of rs) ≡ rs
 unfolding entries_in

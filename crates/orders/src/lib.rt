@@ -1,6 +1,7 @@
 // What the check of a proposed order and the writer of one answer; specs/ says when. RULES, Orders.
 
 // What the check answers: 13, yes or no (`check_reply` of specs/Reply.antt).
+#![tactic(auto)]
 #[derive(Drop)]
 pub enum CheckAnswer {
     Bad,

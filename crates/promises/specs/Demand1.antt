@@ -32,7 +32,7 @@ use Rattle.replies.specs.Desk.{answer_line, desk_body}
 use Rattle.turns.specs.declared.Turn.{Turn}
 use Rattle.turns.specs.Lines.{lines_of}
 use Rattle.turns.specs.Pieces.{joined, in_pieces}
-use Rattle.promises.specs.Contracts.{CallGives, WriteGives, BodyGives, FrameGives, ReadGives, MessageGives, ServeGives, TurnGives}
+use Rattle.promises.specs.Stated.{CallGives, WriteGives, BodyGives, FrameGives, ReadGives, MessageGives, ServeGives, TurnGives}
 
 -- a call's row in RULES, Calls: the refusals that it can get, after 1 for a closed table, and what it is answered when it is done
 abbrev pub refusals : Call → List ℕ

@@ -28,7 +28,7 @@ use Rattle.frames.specs.Frame.{Next, frame_of, next_frame}
 use Rattle.frames.specs.Stream.{Stream, stream_of, bytes_of, WellFormed}
 use Rattle.endian.specs.Places.{Below}
 use Rattle.table.specs.declared.Table as held
-use Rattle.promises.specs.Contracts.{CallGives, ReadGives, MessageGives}
+use Rattle.promises.specs.Stated.{CallGives, ReadGives, MessageGives}
 
 -- after every run of calls from the closed table on, each thing that the table holds is what was called and answered says, and stands
 -- in the slot that it was given

@@ -23,7 +23,7 @@ use Rattle.frames.specs.Stream.{stream_of}
 use Rattle.lines.specs.Line.{Line, bad_line, good_line, refused_line}
 use Rattle.replies.specs.Desk.{desk, desk_body}
 use Rattle.turns.specs.Lines.{lines_of}
-use Rattle.promises.specs.Contracts.{CheckGives, CCheckGives, WriteGives}
+use Rattle.promises.specs.Stated.{CheckGives, CCheckGives, WriteGives}
 
 -- the check: 13 exactly for a bad table, and of a good one yes exactly for an order by the rule
 pub record Checks (flat o : List ℕ) (r : CheckAnswer) : Type 0 where

@@ -17,7 +17,7 @@ use Rattle.orders.specs.Good.{GoodRows}
 use Rattle.orders.specs.Reply.{Reply, check_reply, write_reply}
 use Rattle.orders.specs.Write.{Room}
 use Rattle.method.specs.Calls.{FirstHolds}
-use Rattle.promises.specs.Contracts.{BodyGives, FrameGives, ReadGives, MessageGives, CheckGives, WriteGives}
+use Rattle.promises.specs.Stated.{BodyGives, FrameGives, ReadGives, MessageGives, CheckGives, WriteGives}
 use Rattle.promises.specs.Demand3.{HasOrder}
 
 -- a frame stands in front, and its body is no message's

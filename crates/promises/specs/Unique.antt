@@ -14,7 +14,7 @@ use Rattle.table.specs.declared.Table.{Table}
 use Rattle.replies.specs.declared.Replied.{Replied}
 use Rattle.desk.specs.declared.Served.{Served}
 use Rattle.turns.specs.declared.Turn.{Turn}
-use Rattle.promises.specs.Contracts.{CallGives, CheckGives, WriteGives, MessageGives, LineGives, OrderGives, ReplyGives, ServeGives, TurnGives}
+use Rattle.promises.specs.Stated.{CallGives, CheckGives, WriteGives, MessageGives, LineGives, OrderGives, ReplyGives, ServeGives, TurnGives}
 
 -- a contract `r ≡ ..` leaves one result, whatever stands behind: so of `ccheck`, of the readers in `frames` and `wire`, of `table`'s
 -- questions, and of all functions that are not named below

@@ -1,5 +1,6 @@
 // The service: messages on standard input, a line for each on standard output. Everything but the reading and the writing of
 // bytes is a turn of crate `turns`. RULES, The service.
+#![tactic(auto)]
 ghost use Rattle.std.specs.Prelude.{◌≡◌, ◌-◌, ◌≤◌, length, take, drop};
 ghost use Rattle.endian.specs.Laid.{laid};
 

@@ -53,7 +53,7 @@ module _ (F : Form) {M : Type 1} {𝓤 : Ura M} (𝓛 : Logic 𝓤) (c : Clauses
 
     -- what the callee gets: its tokens and its table; the arguments; the `requires`
     abbrev Sent : List (Item 𝓤)
-    Sent = (raw Toks ⊛ ‵ ((Tab' F κi).own ai.0 vs)) ∷ ‵ (owns (Rows Xs (here F) κo) y (vals Xs (here F) κo y)) ∷ raw ((c κo ao).requires g) ∷ []
+    Sent = (raw Toks ⊛ ‵ ((Tab' F κi).own_val ai.0 vs)) ∷ ‵ (owns (Rows Xs (here F) κo) y (vals Xs (here F) κo y)) ∷ raw ((c κo ao).requires g) ∷ []
 
     pub asked : ent 𝓤 (⋆ 𝓛 Sent) ((Callee F 𝓛 c c').pre to)
     asked =
@@ -64,18 +64,18 @@ module _ (F : Form) {M : Type 1} {𝓤 : Ura M} (𝓛 : Logic 𝓤) (c : Clauses
 
     -- what the callee's last values say of the arguments is what is had of them
     hears : (ws : Ends F κs x y) → ent 𝓤 (sem 𝓛 (lasts_of κi (slots Xs (there F)) (all yes (slots Xs (there F))) ai.1 ws.1)) (sem 𝓛 (Had F κs x y ws))
-    hears ws = via 𝓤 _ (lasts_out 𝓛 Xs (here F) (there F) κo κi y ws.1)
+    hears ws = via 𝓤 _ (lasts_out 𝓛 Xs (here F) (there F) κo κi (pick_at F.tab Xs F.outer κs ∙ sym (pick_at F.tab Xs F.inner κs)) y ws.1)
         (gave_has 𝓛 κo (slots Xs (here F)) y (lasts_over Xs (here F) (there F) κo κi y ws.1) (vals Xs (here F) κo y))
 
     -- what comes back: the answer w; what is left of the callee's table; the tokens, with what is had of the arguments and what is said
     abbrev Came : Val → (r : F.Res'.Denot) → Ends F κs x y → List (Item 𝓤) → List (Item 𝓤)
     Came w r ws Γ =
-        ‵ (F.Res'.own r (w ∷ [])) ∷ ‵ (left ((Tab' F κi).exit yes) ai.0 ws.0) ∷ (raw Toks ⊛ (‵ (Had F κs x y ws) ⊛ raw (Said r ws))) ∷ Γ
+        ‵ (F.Res'.own_val r (w ∷ [])) ∷ ‵ (left ((Tab' F κi).exit yes) ai.0 ws.0) ∷ (raw Toks ⊛ (‵ (Had F κs x y ws) ⊛ raw (Said r ws))) ∷ Γ
 
     pub answered : {K : Type 0} {Γ : List (Item 𝓤)} {G : Goal 𝓤 H} → K → Soaks G → (w : Val)
         → ((r : F.Res'.Denot) (ws : Ends F κs x y) → Seq K 𝓛 (Came w r ws Γ) G) → Seq K 𝓛 (raw ((Callee F 𝓛 c c').post to w) ∷ Γ) G
     answered t soaks w k =
-        use1 𝓛 (later (some (λ (r : F.Res'.Denot). (raw Toks ⊛ ‵ (F.Res'.own r (w ∷ []))) ⊛ raw (ensured 𝓛 (Inner F) c' κi ai (P.ghost κs x y g) r))))
+        use1 𝓛 (later (some (λ (r : F.Res'.Denot). (raw Toks ⊛ ‵ (F.Res'.own_val r (w ∷ []))) ⊛ raw (ensured 𝓛 (Inner F) c' κi ai (P.ghost κs x y g) r))))
         (id⊢ 𝓤 _) $ await t soaks $ pick t (λ r. split t $ move t (1 ∷ []) $
         use1 𝓛 (some (λ (ws : Ends F κs x y). ‵ (lastly (Inner F) κi ai ws) ⊛ raw ((c' κi ai).ensures (P.ghost κs x y g) r (at_exit (Inner F) κi ai ws))))
         (id⊢ 𝓤 _) $ pick t (λ ws. split t $ move t (1 ∷ []) $ use1 𝓛 (raw (Said r ws)) (P.gives κs x y g r ws) $

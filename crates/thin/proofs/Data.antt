@@ -12,6 +12,8 @@ use denote.Laws.{Is, Tells, Makes, Lawful, Typed}
 use denote.Memory.{lone}
 use denote.Exit.{Exit, unchanged, Last, left, yes}
 use denote.Plain.{UInt, Boolean, uint_Tells, uint_Makes, uint_Lawful, bool_Tells, bool_Makes, bool_Lawful}
+use denote.Opens.{Opens}
+use denote.Copied.{uint_Copied, bool_Copied}
 use denote.Struct.Struct.{Plains}
 use denote.Struct.Declared as Struct
 use denote.Struct.Laws as StructLaws
@@ -28,6 +30,8 @@ pub record Data : Type 2 where
   pub lawful : {M : Type 1} {𝓤 : Ura M} (𝓛 : Logic 𝓤) → Lawful 𝓛 row
   pub makes : {M : Type 1} {𝓤 : Ura M} (𝓛 : Logic 𝓤) → Makes 𝓛 row (Is row)
   pub still : row.exit yes ≡ unchanged
+  -- a `&` to it is looked into
+  pub opens : {M : Type 1} {𝓤 : Ura M} (𝓛 : Logic 𝓤) → Opens 𝓛 row
 
 module _ (D : Data) where
   pub typed : {M : Type 1} {𝓤 : Ura M} (𝓛 : Logic 𝓤) (x : D.row.Denot) (v : Val)
@@ -52,6 +56,7 @@ uint w = record {
   lawful = λ 𝓛. uint_Lawful 𝓛 w;
   makes = λ 𝓛. uint_Makes 𝓛 w;
   still = refl;
+  opens = λ 𝓛. (uint_Copied 𝓛 w).opens;
 }
 
 abbrev pub boolean : Data
@@ -64,6 +69,7 @@ boolean = record {
   lawful = λ 𝓛. bool_Lawful 𝓛;
   makes = λ 𝓛. bool_Makes 𝓛;
   still = refl;
+  opens = λ 𝓛. (bool_Copied 𝓛).opens;
 }
 
 abbrev pub struct : (D : Struct.Declared) → StructLaws.Laws D → Plains (Struct.fields D) → StructLaws.Copyables D.parts → Data
@@ -76,6 +82,7 @@ struct D L plain copies = record {
   lawful = λ 𝓛. StructLaws.lawful D L 𝓛;
   makes = λ 𝓛. StructLaws.makes D plain 𝓛;
   still = StructLaws.still D copies yes;
+  opens = λ 𝓛. (StructLaws.copied D copies 𝓛).opens;
 }
 
 abbrev pub enum : (D : Enum.Declared) → EnumLaws.Laws D → Few (Enum.shape D) → Plainss (Enum.variants D) → EnumLaws.Copyabless D.parts → Data
@@ -88,4 +95,5 @@ enum D L few plain copies = record {
   lawful = λ 𝓛. EnumLaws.lawful D L 𝓛 few;
   makes = λ 𝓛. EnumLaws.makes D plain 𝓛;
   still = EnumLaws.still D copies yes;
+  opens = λ 𝓛. (EnumLaws.copied D copies 𝓛).opens;
 }

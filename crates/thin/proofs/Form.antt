@@ -4,7 +4,7 @@
 --     Passes       what their contracts owe each other.        Walk         a walk of the function's MIR
 use mathlib.Core.List.{◌++◌, List}
 use seplogic.Ra.Ura.{Ura}
-use mir.Syntax.{Name, Fn}
+use mir.Syntax.{Callee as FnName, Fn}
 use mir.Val.{Val}
 use base.Logic.{SProp, ent, sep}
 use base.Fml.{Fml}
@@ -119,9 +119,9 @@ module _ (F : Form) where
   its κs = spell T Xs F.outer κs
 
   -- a walk of the MIR, of a function that calls g
-  abbrev pub Walk : (Name → Fn) → Type 2
+  abbrev pub Walk : (FnName → Fn) → Type 2
   Walk fn = (M : Type 1) (𝓤 : Ura M) (𝓛 : Logic 𝓤) (c : Clauses 𝓤 Outer) (c' : Clauses 𝓤 Inner) → Passes 𝓛 c c'
-      → (C : Calls 𝓤 𝓛.H) (Λ : Loops 𝓤 𝓛.H) → FmC 𝓤 𝓛.H 𝓛.laws C → (g : Name) → Triple 𝓤 (C g) (Callee 𝓛 c c')
+      → (C : Calls 𝓤 𝓛.H) (Λ : Loops 𝓤 𝓛.H) → FmC 𝓤 𝓛.H 𝓛.laws C → (g : FnName) → Triple 𝓤 (C g) (Callee 𝓛 c c')
       → (κs : Lfts here.n) (qs : Shares here.n) (a : (Tab κs).Denot × Dens Xs here κs) (u : (c κs a).ghost) → Is (Tab κs) a.0 (its κs a.0)
       → Fit Xs here κs a.1
       → ent 𝓤 (sep 𝓤 (on_entry 𝓛 Outer.signature κs qs a (its κs a.0, vals Xs here κs a.1)) ((c κs a).requires u))

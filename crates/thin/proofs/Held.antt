@@ -10,7 +10,7 @@ use types.Logic.{Logic}
 use contract.Lifetimes.{Lfts}
 use denote.RattleType.{RattleType}
 use denote.Laws.{Is, Tells}
-use denote.Ref.{Bor, shr_vals, mut_Tells, shr_Tells}
+use denote.Ref.{MutBor, as_bor, mut_vals, shr_vals, mut_Tells, shr_Tells}
 use denote.Signature.{Slot, plain, mut_ref_to, shr_ref_to}
 use denote.Triple.End.{all}
 use denote.Triple.Clauses.{Ended}
@@ -22,9 +22,9 @@ use Rattle.thin.proofs.Args.{Arg, lfts, Scope, alone, behind, slots}
 pub data Held : Type 0 where
   owned lent seen : Held
 
--- a reference to the table
+-- a reference to the table. A `&` has no ghost name: it's the reference seen with its name left out
 abbrev pub Ref : Data → Type 0
-Ref tab = Bor tab.row.Denot
+Ref tab = MutBor tab.row.Denot
 
 -- a lifetime for it, and those of the arguments
 abbrev pub Lives : List Arg → Type 0
@@ -57,7 +57,7 @@ module _ (tab : Data) (Xs : List Arg) where
   abbrev pub held : (h : Held) (κs : Lives Xs) → Ref tab → ((slot h).row (at h κs)).Denot
   held owned κs x = x.now
   held lent κs x = x
-  held seen κs x = x
+  held seen κs x = as_bor x
 
   -- the arguments' lifetimes are the same, however the table is held
   pub pick_at : (h : Held) (κs : Lives Xs) → (scope h).pick (at h κs) ≡ κs.1
@@ -88,7 +88,7 @@ module _ (tab : Data) (Xs : List Arg) where
   -- ---- its machine values
   abbrev pub spell : (h : Held) (κs : Lfts (scope h).n) → ((slot h).row κs).Denot → List Val
   spell owned κs x = tab.val x ∷ []
-  spell lent κs x = shr_vals x
+  spell lent κs x = mut_vals x
   spell seen κs x = shr_vals x
 
   pub spell_tells : (h : Held) (κs : Lfts (scope h).n) → Tells ((slot h).row κs) (Is ((slot h).row κs)) (spell h κs)

@@ -5,7 +5,7 @@
 use Prim.Native.Nat.{ℕ, zero, suc}
 use mathlib.Core.List.{[], ◌∷◌, List}
 use seplogic.Ra.Ura.{Ura}
-use seplogic.Ra.TreeShare.{full_share}
+use base.Fraction.{full_share}
 use lib.ListN.{length}
 use mir.Syntax.{Ty, ty_ref, named, erased, imm, mut, deref, field, place, Opd as Operand, copy, addr_of, aggregate, Body, seq, assign, Local, local, value_local}
 use mir.Val.{Val, vptr}
@@ -15,17 +15,19 @@ use types.Kit.{Item, ‵, ◌⊛◌}
 use denote.RattleType.{RattleType}
 use denote.Memory.{lone, pointee}
 use denote.Slice.{slice_val}
-use Rattle.thin.proofs.Args.{Arg, value, sliced, slice_ty_of, lfts, Scope, next, Dens}
+use Rattle.thin.proofs.Args.{Arg, value, slice, buffer, slice_ty_of, lfts, Scope, next, Dens}
 
 -- ---- the MIR
 -- an argument's type, where the next lifetime has the number j, and the number after it
 abbrev arg_ty : ℕ → Arg → Ty
 arg_ty j (value D) = D.ty
-arg_ty j (sliced μ R) = slice_ty_of μ (named j) R
+arg_ty j (slice R) = slice_ty_of imm (named j) R
+arg_ty j (buffer R) = slice_ty_of mut (named j) R
 
-abbrev past : ℕ → Arg → ℕ
+abbrev pub past : ℕ → Arg → ℕ
 past j (value D) = j
-past j (sliced μ R) = suc j
+past j (slice R) = suc j
+past j (buffer R) = suc j
 
 -- the two locals in which a `&mut [R]` is lent again
 abbrev pub ptr_ty : RattleType → Ty
@@ -41,21 +43,21 @@ locals j (X ∷ Xs) = local (arg_ty j X) value_local ∷ locals (past j X) Xs
 abbrev pub temps : List Arg → List Local
 temps [] = []
 temps (value D ∷ Xs) = temps Xs
-temps (sliced imm R ∷ Xs) = temps Xs
-temps (sliced mut R ∷ Xs) = local (ptr_ty R) value_local ∷ local (again_ty R) value_local ∷ temps Xs
+temps (slice R ∷ Xs) = temps Xs
+temps (buffer R ∷ Xs) = local (ptr_ty R) value_local ∷ local (again_ty R) value_local ∷ temps Xs
 
 -- the arguments as operands of the call
 abbrev pub opds : (ℕ → ℕ) → (ℕ → ℕ) → List Arg → List Operand
 opds up tmp [] = []
 opds up tmp (value D ∷ Xs) = copy (place (up zero) []) ∷ opds (λ i. up (suc i)) tmp Xs
-opds up tmp (sliced imm R ∷ Xs) = copy (place (up zero) []) ∷ opds (λ i. up (suc i)) tmp Xs
-opds up tmp (sliced mut R ∷ Xs) = copy (place (tmp 1) []) ∷ opds (λ i. up (suc i)) (λ i. tmp (suc (suc i))) Xs
+opds up tmp (slice R ∷ Xs) = copy (place (up zero) []) ∷ opds (λ i. up (suc i)) tmp Xs
+opds up tmp (buffer R ∷ Xs) = copy (place (tmp 1) []) ∷ opds (λ i. up (suc i)) (λ i. tmp (suc (suc i))) Xs
 
 abbrev pub remade : (ℕ → ℕ) → (ℕ → ℕ) → List Arg → Body → Body
 remade up tmp [] rest = rest
 remade up tmp (value D ∷ Xs) rest = remade (λ i. up (suc i)) tmp Xs rest
-remade up tmp (sliced imm R ∷ Xs) rest = remade (λ i. up (suc i)) tmp Xs rest
-remade up tmp (sliced mut R ∷ Xs) rest =
+remade up tmp (slice R ∷ Xs) rest = remade (λ i. up (suc i)) tmp Xs rest
+remade up tmp (buffer R ∷ Xs) rest =
     seq (assign (place (tmp zero) []) (addr_of (place (up zero) (field 0 ∷ deref (lone R.mir) ∷ []))))
     (seq (assign (place (tmp 1) []) (aggregate (copy (place (tmp zero) []) ∷ copy (place (up zero) (field 1 ∷ [])) ∷ [])))
     (remade (λ i. up (suc i)) (λ i. tmp (suc (suc i))) Xs rest))
@@ -68,8 +70,8 @@ idx up (X ∷ Xs) j = idx (λ i. up (suc i)) Xs j
 abbrev pub tidx : (ℕ → ℕ) → List Arg → ℕ → ℕ
 tidx tmp [] j = tmp j
 tidx tmp (value D ∷ Xs) j = tidx tmp Xs j
-tidx tmp (sliced imm R ∷ Xs) j = tidx tmp Xs j
-tidx tmp (sliced mut R ∷ Xs) j = tidx (λ i. tmp (suc (suc i))) Xs j
+tidx tmp (slice R ∷ Xs) j = tidx tmp Xs j
+tidx tmp (buffer R ∷ Xs) j = tidx (λ i. tmp (suc (suc i))) Xs j
 
 -- ---- where they are in memory: a block for each local
 abbrev pub Blocks : List Arg → Type 0
@@ -79,8 +81,8 @@ Blocks (X ∷ Xs) = ℕ × Blocks Xs
 abbrev pub Temps : List Arg → Type 0
 Temps [] = Unit {0}
 Temps (value D ∷ Xs) = Temps Xs
-Temps (sliced imm R ∷ Xs) = Temps Xs
-Temps (sliced mut R ∷ Xs) = ℕ × ℕ × Temps Xs
+Temps (slice R ∷ Xs) = Temps Xs
+Temps (buffer R ∷ Xs) = ℕ × ℕ × Temps Xs
 
 abbrev pub envs : (j : ℕ) (Xs : List Arg) → Blocks Xs → List (Ty × ℕ)
 envs j [] bs = []
@@ -89,8 +91,8 @@ envs j (X ∷ Xs) bs = (arg_ty j X, bs.0) ∷ envs (past j X) Xs bs.1
 abbrev pub tenvs : (Xs : List Arg) → Temps Xs → List (Ty × ℕ)
 tenvs [] ts = []
 tenvs (value D ∷ Xs) ts = tenvs Xs ts
-tenvs (sliced imm R ∷ Xs) ts = tenvs Xs ts
-tenvs (sliced mut R ∷ Xs) ts = (ptr_ty R, ts.0) ∷ (again_ty R, ts.1) ∷ tenvs Xs ts.2
+tenvs (slice R ∷ Xs) ts = tenvs Xs ts
+tenvs (buffer R ∷ Xs) ts = (ptr_ty R, ts.0) ∷ (again_ty R, ts.1) ∷ tenvs Xs ts.2
 
 module _ {M : Type 1} (𝓤 : Ura M) where
   abbrev pub room1 : Ty → ℕ → Item 𝓤
@@ -106,18 +108,19 @@ module _ {M : Type 1} (𝓤 : Ura M) where
   abbrev pub cells : (Xs : List Arg) (s : Scope (lfts Xs)) (κs : Lfts s.n) → Blocks Xs → Dens Xs s κs → Item 𝓤
   cells [] s κs bs a = ‵ ftrue
   cells (value D ∷ Xs) s κs bs a = cell1 D.ty bs.0 (D.val a.0) ⊛ cells Xs s κs bs.1 a.1
-  cells (sliced μ R ∷ Xs) s κs bs a = cell1 (slice_ty_of μ (named s.j) R) bs.0 (slice_val a.0.ref_ptr (length a.0.now)) ⊛ cells Xs (next s) κs bs.1 a.1
+  cells (slice R ∷ Xs) s κs bs a = cell1 (slice_ty_of imm (named s.j) R) bs.0 (slice_val a.0.ref_ptr (length a.0.now)) ⊛ cells Xs (next s) κs bs.1 a.1
+  cells (buffer R ∷ Xs) s κs bs a = cell1 (slice_ty_of mut (named s.j) R) bs.0 (slice_val a.0.ref_ptr (length a.0.now)) ⊛ cells Xs (next s) κs bs.1 a.1
 
   abbrev pub trooms : (Xs : List Arg) → Temps Xs → Item 𝓤
   trooms [] ts = ‵ ftrue
   trooms (value D ∷ Xs) ts = trooms Xs ts
-  trooms (sliced imm R ∷ Xs) ts = trooms Xs ts
-  trooms (sliced mut R ∷ Xs) ts = room1 (ptr_ty R) ts.0 ⊛ (room1 (again_ty R) ts.1 ⊛ trooms Xs ts.2)
+  trooms (slice R ∷ Xs) ts = trooms Xs ts
+  trooms (buffer R ∷ Xs) ts = room1 (ptr_ty R) ts.0 ⊛ (room1 (again_ty R) ts.1 ⊛ trooms Xs ts.2)
 
   abbrev pub tcells : (Xs : List Arg) (s : Scope (lfts Xs)) (κs : Lfts s.n) → Temps Xs → Dens Xs s κs → Item 𝓤
   tcells [] s κs ts a = ‵ ftrue
   tcells (value D ∷ Xs) s κs ts a = tcells Xs s κs ts a.1
-  tcells (sliced imm R ∷ Xs) s κs ts a = tcells Xs (next s) κs ts a.1
-  tcells (sliced mut R ∷ Xs) s κs ts a =
+  tcells (slice R ∷ Xs) s κs ts a = tcells Xs (next s) κs ts a.1
+  tcells (buffer R ∷ Xs) s κs ts a =
       cell1 (ptr_ty R) ts.0 (vptr a.0.ref_ptr.0 a.0.ref_ptr.1)
       ⊛ (cell1 (again_ty R) ts.1 (slice_val a.0.ref_ptr (length a.0.now)) ⊛ tcells Xs (next s) κs ts.2 a.1)

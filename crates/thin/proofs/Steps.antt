@@ -18,12 +18,12 @@ use types.Part.{Part, whole, sub, agg, look_in}
 use denote.RattleType.{RattleType}
 use denote.Laws.{Is}
 use denote.Memory.{lone}
-use denote.Ref.{Bor}
-use denote.Slice.{slice_val, shr_slice_vals}
+use denote.Ref.{MutBor}
+use denote.Slice.{MutSlice, slice_val, mut_slice_vals}
 use denote.Steps.{nothing}
 use Rattle.thin.proofs.Data.{typed}
-use Rattle.thin.proofs.Args.{Arg, value, sliced, slice_ty_of, slice_of, slice_typed, lfts, Scope, next, Dens, words, Fit, over}
-use Rattle.thin.proofs.Locals.{ptr_ty, again_ty, locals, temps, opds, remade, idx, tidx, Blocks, Temps, envs, tenvs, room1, cell1, rooms, cells, trooms, tcells}
+use Rattle.thin.proofs.Args.{Arg, value, slice, buffer, slice_ty_of, slice_typed, buffer_typed, lfts, Scope, next, Dens, words, Fit, over}
+use Rattle.thin.proofs.Locals.{past, ptr_ty, again_ty, locals, temps, opds, remade, idx, tidx, Blocks, Temps, envs, tenvs, room1, cell1, rooms, cells, trooms, tcells}
 
 -- ---- a cell within one of two entries that are one
 abbrev Way : {M : Type 1} {𝓤 : Ura M} (𝓛 : Logic 𝓤) → Share → Ty → ℕ → ℕ → (Val → Item 𝓤) → Val → SProp 𝓤
@@ -63,44 +63,48 @@ module _ {M : Type 1} {𝓤 : Ura M} {𝓛 : Logic 𝓤} {K : Type 0} where
   -- ---- allocate
   open 𝓛 use {H}
 
-  pub alloc_all : K → {Γ : List (Item 𝓤)} (j : ℕ) (Xs : List Arg) {ls : List Local} {Kt : Env 𝓤 H → Goal 𝓤 H}
+  pub alloc_all : K → (j : ℕ) (Xs : List Arg) {Γ : List (Item 𝓤)} {ls : List Local} {Kt : Env 𝓤 H → Goal 𝓤 H}
       → ((bs : Blocks Xs) → Seq K 𝓛 (rooms 𝓤 j Xs bs ∷ Γ) (allocs ls (λ E. Kt (envs j Xs bs ++ E)))) → Seq K 𝓛 Γ (allocs (locals j Xs ++ ls) Kt)
   alloc_all t j [] k = nothing t $ k tt
-  alloc_all t j (X ∷ Xs) k = alloc1 t (λ b. alloc_all t _ Xs (λ bs. move t (1 ∷ 2 ∷ 0 ∷ []) $ join t $ join t $ k (b, bs)))
+  alloc_all t j (X ∷ Xs) k = alloc1 t (λ b. alloc_all t (past j X) Xs (λ bs. move t (1 ∷ 2 ∷ 0 ∷ []) $ join t $ join t $ k (b, bs)))
 
-  pub alloc_temps : K → {Γ : List (Item 𝓤)} (Xs : List Arg) {ls : List Local} {Kt : Env 𝓤 H → Goal 𝓤 H}
+  pub alloc_temps : K → (Xs : List Arg) {Γ : List (Item 𝓤)} {ls : List Local} {Kt : Env 𝓤 H → Goal 𝓤 H}
       → ((ts : Temps Xs) → Seq K 𝓛 (trooms 𝓤 Xs ts ∷ Γ) (allocs ls (λ E. Kt (tenvs Xs ts ++ E)))) → Seq K 𝓛 Γ (allocs (temps Xs ++ ls) Kt)
   alloc_temps t [] k = nothing t $ k tt
   alloc_temps t (value D ∷ Xs) k = alloc_temps t Xs k
-  alloc_temps t (sliced imm R ∷ Xs) k = alloc_temps t Xs k
-  alloc_temps t (sliced mut R ∷ Xs) k =
+  alloc_temps t (slice R ∷ Xs) k = alloc_temps t Xs k
+  alloc_temps t (buffer R ∷ Xs) k =
       alloc1 t (λ b. alloc1 t (λ b'. alloc_temps t Xs (λ ts. move t (1 ∷ 2 ∷ 0 ∷ []) $ join t $ join t $ move t (1 ∷ 2 ∷ 0 ∷ []) $ join t $ join t $
       k (b, b', ts))))
 
   -- ---- store what was passed
-  pub pass_all : K → {Γ : List (Item 𝓤)} (Xs : List Arg) (s : Scope (lfts Xs)) (κs : Lfts s.n) (bs : Blocks Xs) (a : Dens Xs s κs) → Fit Xs s κs a
+  pub pass_all : K → (Xs : List Arg) {Γ : List (Item 𝓤)} (s : Scope (lfts Xs)) (κs : Lfts s.n) (bs : Blocks Xs) (a : Dens Xs s κs) → Fit Xs s κs a
       → (E : Env 𝓤 H) {g : Goal 𝓤 H} → Step K 𝓛 (cells 𝓤 Xs s κs bs a ∷ Γ) g (rooms 𝓤 s.j Xs bs ∷ Γ) (passes (envs s.j Xs bs ++ E) (words Xs s κs a) g)
   pass_all t [] s κs bs a is E = pass0 t
   pass_all t (value D ∷ Xs) s κs bs a is E = step (λ z. split t $ split t $
       pass1 t (init t 0 refl (typed D 𝓛 a.0 _ is.0)) $ move t (2 ∷ []) $
       pass_all t Xs s κs bs.1 a.1 is.1 E $ move t (1 ∷ 2 ∷ 0 ∷ []) $ join t $ join t $ z)
-  pass_all t (sliced μ R ∷ Xs) s κs bs a is E = step (λ z. split t $ split t $
-      pass1 t (init t 0 refl (slice_typed μ (named s.j) (s.pick κs).0 R 𝓛 a.0 _ is.0)) $ move t (2 ∷ []) $
+  pass_all t (slice R ∷ Xs) s κs bs a is E = step (λ z. split t $ split t $
+      pass1 t (init t 0 refl (slice_typed (named s.j) (s.pick κs).0 R 𝓛 a.0 _ is.0)) $ move t (2 ∷ []) $
+      pass_all t Xs (next s) κs bs.1 a.1 is.1 E $ move t (1 ∷ 2 ∷ 0 ∷ []) $ join t $ join t $ z)
+  pass_all t (buffer R ∷ Xs) s κs bs a is E = step (λ z. split t $ split t $
+      pass1 t (init t 0 refl (buffer_typed (named s.j) (s.pick κs).0 R 𝓛 a.0 _ is.0)) $ move t (2 ∷ []) $
       pass_all t Xs (next s) κs bs.1 a.1 is.1 E $ move t (1 ∷ 2 ∷ 0 ∷ []) $ join t $ join t $ z)
 
   -- ---- free
-  pub free_all : K → {Γ : List (Item 𝓤)} (Xs : List Arg) (s : Scope (lfts Xs)) (κs : Lfts s.n) (bs : Blocks Xs)
+  pub free_all : K → (Xs : List Arg) {Γ : List (Item 𝓤)} (s : Scope (lfts Xs)) (κs : Lfts s.n) (bs : Blocks Xs)
       (a : Dens Xs s κs) {E : Env 𝓤 H} {g : Goal 𝓤 H} → Step K 𝓛 Γ (frees E g) (cells 𝓤 Xs s κs bs a ∷ Γ) (frees (envs s.j Xs bs ++ E) g)
   free_all t [] s κs bs a = drop t
   free_all t (value D ∷ Xs) s κs bs a = step (λ z. split t $ split t $ forget t 0 refl $ free1 t $ free_all t Xs s κs bs.1 a.1 $ z)
-  free_all t (sliced μ R ∷ Xs) s κs bs a = step (λ z. split t $ split t $ forget t 0 refl $ free1 t $ free_all t Xs (next s) κs bs.1 a.1 $ z)
+  free_all t (slice R ∷ Xs) s κs bs a = step (λ z. split t $ split t $ forget t 0 refl $ free1 t $ free_all t Xs (next s) κs bs.1 a.1 $ z)
+  free_all t (buffer R ∷ Xs) s κs bs a = step (λ z. split t $ split t $ forget t 0 refl $ free1 t $ free_all t Xs (next s) κs bs.1 a.1 $ z)
 
-  pub free_temps : K → {Γ : List (Item 𝓤)} (Xs : List Arg) (s : Scope (lfts Xs)) (κs : Lfts s.n) (ts : Temps Xs)
+  pub free_temps : K → (Xs : List Arg) {Γ : List (Item 𝓤)} (s : Scope (lfts Xs)) (κs : Lfts s.n) (ts : Temps Xs)
       (a : Dens Xs s κs) {E : Env 𝓤 H} {g : Goal 𝓤 H} → Step K 𝓛 Γ (frees E g) (tcells 𝓤 Xs s κs ts a ∷ Γ) (frees (tenvs Xs ts ++ E) g)
   free_temps t [] s κs ts a = drop t
   free_temps t (value D ∷ Xs) s κs ts a = free_temps t Xs s κs ts a.1
-  free_temps t (sliced imm R ∷ Xs) s κs ts a = free_temps t Xs (next s) κs ts a.1
-  free_temps t (sliced mut R ∷ Xs) s κs ts a =
+  free_temps t (slice R ∷ Xs) s κs ts a = free_temps t Xs (next s) κs ts a.1
+  free_temps t (buffer R ∷ Xs) s κs ts a =
       step (λ z. split t $ split t $ forget t 0 refl $ free1 t $ split t $ split t $ forget t 0 refl $ free1 t $ free_temps t Xs (next s) κs ts.2 a.1 $ z)
 
   -- ---- read
@@ -117,11 +121,11 @@ module _ {M : Type 1} {𝓤 : Ura M} {𝓛 : Logic 𝓤} {K : Type 0} where
     read_all t (value D ∷ Xs) s s' κs κs' bs ts a F F' up tmp at tat out tout =
         and_then t (load t (spot t (D.ty, bs.0, zero) (at zero) (stop t)) (out _ _ _ _ _ _ (in_left (in_left (whole t)))))
         (read_all t Xs s s' κs κs' bs.1 ts a.1 F F' (λ i. up (suc i)) tmp (λ i. at (suc i)) tat (λ q τ b o v back p. out q τ b o v _ (in_right p)) tout)
-    read_all t (sliced imm R ∷ Xs) s s' κs κs' bs ts a F F' up tmp at tat out tout =
+    read_all t (slice R ∷ Xs) s s' κs κs' bs ts a F F' up tmp at tat out tout =
         and_then t (load t (spot t (slice_ty_of imm (named s.j) R, bs.0, zero) (at zero) (stop t)) (out _ _ _ _ _ _ (in_left (in_left (whole t)))))
         (read_all t Xs (next s) (next s') κs κs' bs.1 ts a.1 F F' (λ i. up (suc i)) tmp (λ i. at (suc i)) tat
         (λ q τ b o v back p. out q τ b o v _ (in_right p)) tout)
-    read_all t (sliced mut R ∷ Xs) s s' κs κs' bs ts a F F' up tmp at tat out tout =
+    read_all t (buffer R ∷ Xs) s s' κs κs' bs ts a F F' up tmp at tat out tout =
         and_then t (load t (spot t (again_ty R, ts.1, zero) (tat 1) (stop t)) (tout _ _ _ _ _ _ (in_right (in_left (in_left (whole t))))))
         (read_all t Xs (next s) (next s') κs κs' bs.1 ts.2 a.1 F F' (λ i. up (suc i)) (λ i. tmp (suc (suc i))) (λ i. at (suc i))
         (λ i. tat (suc (suc i)))
@@ -130,7 +134,7 @@ module _ {M : Type 1} {𝓤 : Ura M} {𝓛 : Logic 𝓤} {K : Type 0} where
   -- ---- lend the buffers again
   -- one of them, and then what follows is done, with the other cells cs and the other rooms tr, of which it makes tc
   remake : K → {Γ : List (Item 𝓤)} {C : Calls 𝓤 H} {Λ : Loops 𝓤 H} {E : Env 𝓤 H} {q : Post 𝓤 H} {rest body : Body}
-      (R : RattleType) (j : ℕ) (κ : Lft) (b t₀ t₁ : ℕ) (x : Bor (List R.Denot)) → Is (slice_of mut (named j) κ R) x (shr_slice_vals x)
+      (R : RattleType) (j : ℕ) (κ : Lft) (b t₀ t₁ : ℕ) (x : MutBor (List R.Denot)) → Is (MutSlice (named j) κ R) x (mut_slice_vals x)
       → (i k₀ k₁ : ℕ) → spot_of 𝓤 H E i ≡ (slice_ty_of mut (named j) R, b, zero) → spot_of 𝓤 H E k₀ ≡ (ptr_ty R, t₀, zero) → spot_of 𝓤 H E k₁ ≡ (again_ty R, t₁, zero)
       → (cs tr tc : Item 𝓤) → ((Δ : List (Item 𝓤)) → Step K 𝓛 (tc ∷ cs ∷ Δ) (runs C Λ E rest q) (tr ∷ cs ∷ Δ) (runs C Λ E body q))
       → Step K 𝓛
@@ -147,26 +151,26 @@ module _ {M : Type 1} {𝓤 : Ura M} {𝓛 : Logic 𝓤} {K : Type 0} where
       (spot t (ptr_ty R, t₀, zero) at₀ (stop t)) (init t 6 refl (tt, tt)) $
       assigns t (agg t (and_then t (load t (spot t (ptr_ty R, t₀, zero) at₀ (stop t)) (look t 6 refl))
       (and_then t (load t (spot t (slice_ty_of mut (named j) R, b, zero) at (fld t refl (stop t))) (look_in t 0 (sub t 1 refl (whole t)))) (no_more t))))
-      (spot t (again_ty R, t₁, zero) at₁ (stop t)) (init t 3 refl (slice_typed mut erased κ R 𝓛 x _ is)) $
+      (spot t (again_ty R, t₁, zero) at₁ (stop t)) (init t 3 refl (buffer_typed erased κ R 𝓛 x _ is)) $
       move t (5 ∷ 2 ∷ []) $ others _ $
       move t (4 ∷ 5 ∷ 0 ∷ []) $ join t $ join t $ move t (4 ∷ 5 ∷ 0 ∷ []) $ join t $ join t $ move t (2 ∷ 3 ∷ 1 ∷ []) $ join t $ join t $
       move t (1 ∷ 0 ∷ []) $ z)
 
-  pub remakes : K → {Γ : List (Item 𝓤)} {C : Calls 𝓤 H} {Λ : Loops 𝓤 H} {E : Env 𝓤 H} {q : Post 𝓤 H} {rest : Body}
-      (Xs : List Arg) (s : Scope (lfts Xs)) (κs : Lfts s.n) (bs : Blocks Xs) (ts : Temps Xs) (a : Dens Xs s κs) → Fit Xs s κs a
+  pub remakes : K → {C : Calls 𝓤 H} {Λ : Loops 𝓤 H} {E : Env 𝓤 H} {q : Post 𝓤 H} {rest : Body}
+      (Xs : List Arg) {Γ : List (Item 𝓤)} (s : Scope (lfts Xs)) (κs : Lfts s.n) (bs : Blocks Xs) (ts : Temps Xs) (a : Dens Xs s κs) → Fit Xs s κs a
       → (F F' : Env 𝓤 H) (up tmp : ℕ → ℕ) → Sees 𝓤 H E up (envs s.j Xs bs ++ F) → Sees 𝓤 H E tmp (tenvs Xs ts ++ F')
       → Step K 𝓛 (tcells 𝓤 Xs s κs ts a ∷ cells 𝓤 Xs s κs bs a ∷ Γ) (runs C Λ E rest q)
       (trooms 𝓤 Xs ts ∷ cells 𝓤 Xs s κs bs a ∷ Γ) (runs C Λ E (remade up tmp Xs rest) q)
   remakes t [] s κs bs ts a is F F' up tmp at tat = step (λ z. z)
   remakes t (value D ∷ Xs) s κs bs ts a is F F' up tmp at tat = step (λ z. move t (1 ∷ []) $ split t $ move t (2 ∷ 1 ∷ []) $
       remakes t Xs s κs bs.1 ts a.1 is.1 F F' (λ i. up (suc i)) tmp (λ i. at (suc i)) tat $ move t (2 ∷ 1 ∷ []) $ join t $ move t (1 ∷ 0 ∷ []) $ z)
-  remakes t (sliced imm R ∷ Xs) s κs bs ts a is F F' up tmp at tat = step (λ z. move t (1 ∷ []) $ split t $ move t (2 ∷ 1 ∷ []) $
+  remakes t (slice R ∷ Xs) s κs bs ts a is F F' up tmp at tat = step (λ z. move t (1 ∷ []) $ split t $ move t (2 ∷ 1 ∷ []) $
       remakes t Xs (next s) κs bs.1 ts a.1 is.1 F F' (λ i. up (suc i)) tmp (λ i. at (suc i)) tat $ move t (2 ∷ 1 ∷ []) $ join t $
       move t (1 ∷ 0 ∷ []) $ z)
-  remakes t (sliced mut R ∷ Xs) s κs bs ts a is F F' up tmp at tat =
+  remakes t (buffer R ∷ Xs) s κs bs ts a is F F' up tmp at tat =
       remake t R s.j (s.pick κs).0 bs.0 ts.0 ts.1 a.0 is.0 (up zero) (tmp zero) (tmp 1) (at zero) (tat zero) (tat 1)
       (cells 𝓤 Xs (next s) κs bs.1 a.1) (trooms 𝓤 Xs ts.2) (tcells 𝓤 Xs (next s) κs ts.2 a.1)
-      (λ Δ. remakes t {Γ = Δ} Xs (next s) κs bs.1 ts.2 a.1 is.1 F F' (λ i. up (suc i)) (λ i. tmp (suc (suc i))) (λ i. at (suc i))
+      (λ Δ. remakes t Xs {Γ = Δ} (next s) κs bs.1 ts.2 a.1 is.1 F F' (λ i. up (suc i)) (λ i. tmp (suc (suc i))) (λ i. at (suc i))
       (λ i. tat (suc (suc i))))
 
 -- ---- the local that comes i after the arguments, and the one that comes i after `temps`
@@ -179,5 +183,5 @@ pub tafter : {M : Type 1} (𝓤 : Ura M) (H : Heap 𝓤) (E F : Env 𝓤 H) (Xs 
     → Sees 𝓤 H E tmp (tenvs Xs ts ++ F) → Sees 𝓤 H E (tidx tmp Xs) F
 tafter 𝓤 H E F [] ts tmp at i = at i
 tafter 𝓤 H E F (value D ∷ Xs) ts tmp at i = tafter 𝓤 H E F Xs ts tmp at i
-tafter 𝓤 H E F (sliced imm R ∷ Xs) ts tmp at i = tafter 𝓤 H E F Xs ts tmp at i
-tafter 𝓤 H E F (sliced mut R ∷ Xs) ts tmp at i = tafter 𝓤 H E F Xs ts.2 (λ k. tmp (suc (suc k))) (λ k. at (suc (suc k))) i
+tafter 𝓤 H E F (slice R ∷ Xs) ts tmp at i = tafter 𝓤 H E F Xs ts tmp at i
+tafter 𝓤 H E F (buffer R ∷ Xs) ts tmp at i = tafter 𝓤 H E F Xs ts.2 (λ k. tmp (suc (suc k))) (λ k. at (suc (suc k))) i

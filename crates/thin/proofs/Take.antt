@@ -4,8 +4,8 @@ use mathlib.Core.Path.{◌≡◌, refl, sym, ap, subst}
 use Prim.Native.Nat.{ℕ, zero, suc}
 use mathlib.Core.List.{[], ◌∷◌, ◌++◌, List}
 use seplogic.Ra.Ura.{Ura}
-use seplogic.Ra.TreeShare.{full_share}
-use mir.Syntax.{Name, Ty, ty_ref, erased, named, mut, addr_of, aggregate, place, copy, rv_opd, seq, assign, call, return, Fn, local, value_local, memory_slot}
+use base.Fraction.{full_share}
+use mir.Syntax.{Callee as FnName, Ty, ty_ref, erased, named, mut, addr_of, aggregate, place, copy, rv_opd, seq, assign, call, return, Fn, local, value_local, memory_slot}
 use mir.Val.{Val, vptr}
 use mir.Raw.{raw as raw_ty}
 use base.Logic.{ent, sep, id⊢}
@@ -13,7 +13,7 @@ use base.Fml.{GName, flft, flent, fsep, fat}
 use prog.Wp.{Calls, Loops, WpFn, spot_of}
 use types.Logic.{Logic, sem}
 use contract.Lifetimes.{Lfts, Shares, toks}
-use types.Kit.{‵, raw, ◌⊛◌, some, later, ◌$◌, ◌∵◌, !, qed, by, move, use1, use2, use3, fpick, fpack, split, join, pick, rewrite, fsplit, fjoin, await, done}
+use types.Kit.{‵, raw, ◌⊛◌, some, later, ◌$◌, ◌∵◌, !, qed, by, move, drop, use1, use2, use3, fpick, fpack, split, join, pick, rewrite, fsplit, fjoin, await, done}
 use types.Run.{look, init, forget, stop, from, load, of_opd, addr, and_then, no_more, assigns, land, returns, enter, alloc1, alloc0, params1, pass1, free1, free0}
 use types.Part.{agg, look_in}
 use types.Tokens.{lft_new, lft_end}
@@ -92,10 +92,12 @@ module _ (P : Pair) (Xs : List Arg) where
   abbrev last : ℕ
   last = tidx tmp Xs zero
 
-  abbrev take_fn : Name → Fn
+  abbrev take_fn : FnName → Fn
   take_fn g = record {
     lifetimes = lfts Xs;
     outlives = [];
+    ty_params = [];
+    givens = 0;
     params = idx suc Xs zero;
     locals =
         local (pair_ty P) value_local ∷ local P.tab.ty value_local
@@ -111,7 +113,7 @@ module _ (P : Pair) (Xs : List Arg) where
   }
 
   module _ {M : Type 1} {𝓤 : Ura M} (𝓛 : Logic 𝓤) (c : Clauses 𝓤 (Outer form)) (c' : Clauses 𝓤 (Inner form))
-      (Q : Passes form 𝓛 c c') (C : Calls 𝓤 𝓛.H) (Λ : Loops 𝓤 𝓛.H) (fm : FmC 𝓤 𝓛.H 𝓛.laws C) (g : Name) (known : Triple 𝓤 (C g) (Callee form 𝓛 c c'))
+      (Q : Passes form 𝓛 c c') (C : Calls 𝓤 𝓛.H) (Λ : Loops 𝓤 𝓛.H) (fm : FmC 𝓤 𝓛.H 𝓛.laws C) (g : FnName) (known : Triple 𝓤 (C g) (Callee form 𝓛 c c'))
       (ρs : Lfts (lfts Xs)) (rs : Shares (lfts Xs)) (h : T.Denot) (y : Dens Xs (here form) ρs) (u : (c ρs (h, y)).ghost)
       (ish : Is T h (P.tab.val h ∷ [])) (isy : Fit Xs (here form) ρs y) where
     -- the reference to the block b under the name δ, and the lifetimes of the call, of which ν is the table's
@@ -172,9 +174,10 @@ module _ (P : Pair) (Xs : List Arg) where
         land ! (spot ! (P.ans.ty, l₃, zero) (found l₀ l₁ l₂ l₃ l₄ l₅ bs ts 1) (stop !)) (init ! 9 refl (typed P.ans 𝓛 r w isw)) $
         rewrite ! 9 (λ (v : Val). ‵ (fat full_share P.ans.ty l₃ 0 v)) (ap only (P.ans.tells r _ isw)) refl $
         -- the lifetime ends, and t is back
-        split ! $ lft_end ! tt $ move ! (0 ∷ 4 ∷ 2 ∷ []) $ use3 𝓛 (later (‵ ((mem T).own_at ws.0 l₂ 0))) (ref_back 𝓛 T (ν ∷ []) δ ws.0 l₂ 0) $
+        split ! $ lft_end ! tt $ move ! (2 ∷ []) $ fsplit ! $ move ! (1 ∷ []) $ drop ! $ move ! (1 ∷ 4 ∷ 0 ∷ []) $
+        use3 𝓛 (later (‵ ((mem T).own_at ws.0 l₂ 0))) (ref_back 𝓛 T (ν ∷ []) δ ws.0 l₂ 0) $
         await ! tt $
-        use1 𝓛 (‵ (fat full_share P.tab.ty l₂ 0 (P.tab.val ws.0)) ⊛ ‵ (T.own ws.0 (P.tab.val ws.0 ∷ [])))
+        use1 𝓛 (‵ (fat full_share P.tab.ty l₂ 0 (P.tab.val ws.0)) ⊛ ‵ (T.own_val ws.0 (P.tab.val ws.0 ∷ [])))
         (lies_out P.tab 𝓛 ws.0 l₂) $ split ! $ move ! (1 ∷ []) $
         facts ! T (Is T) (shows 𝓛 T) ws.0 (P.tab.val ws.0 ∷ []) (λ ist.
         -- [t; the other tokens; what is said; the arguments' cells; room for the copy; …; the reference; …; a; …; what frees t; _1; …;

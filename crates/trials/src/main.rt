@@ -3,6 +3,7 @@
 //
 // A record has a kind, a length of two bytes and as many bytes more: kind 0 is a label, which is written as it is and makes
 // the table a closed one; any other kind is a stream, whole.
+#![tactic(auto)]
 ghost use Rattle.std.specs.Prelude.{◌≤◌, length};
 
 use libc::{STDIN_FILENO, STDOUT_FILENO};

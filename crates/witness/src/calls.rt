@@ -1,6 +1,6 @@
 // The eight calls of crate `table`.
 ghost use Rattle.method.specs.Calls.Call.{open_with, begin as beginCall, report_ticket, report_prepared, abort as abortCall, decide as decideCall, forget as forgetCall, sweep as sweepCall};
-ghost use Rattle.promises.specs.Contracts.{CallGives};
+ghost use Rattle.promises.specs.Stated.{CallGives};
 
 use method::{Number, Ticket};
 use table::{Answered, Table};

@@ -1,5 +1,5 @@
 // The check, the writer and the check on bytes.
-ghost use Rattle.promises.specs.Contracts.{CheckGives, CCheckGives, WriteGives};
+ghost use Rattle.promises.specs.Stated.{CheckGives, CCheckGives, WriteGives};
 
 use orders::{CheckAnswer, WriteAnswer};
 

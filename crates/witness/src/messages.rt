@@ -1,5 +1,5 @@
 // The reader and the writer of messages, the writer of lines, and what the service does with a message and with a turn.
-ghost use Rattle.promises.specs.Contracts.{BodyGives, FrameGives, ReadGives, MessageGives, LineGives, OrderGives, ReplyGives, ServeGives, TurnGives};
+ghost use Rattle.promises.specs.Stated.{BodyGives, FrameGives, ReadGives, MessageGives, LineGives, OrderGives, ReplyGives, ServeGives, TurnGives};
 
 use desk::Served;
 use frames::FrameAnswer;

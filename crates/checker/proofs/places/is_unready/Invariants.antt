@@ -1,0 +1,16 @@
+use mathlib.Core.Path.{◌≡◌, refl, sym, ◌∙◌}
+use mathlib.Core.Bool.{false}
+use Prim.Native.Nat.{ℕ, ◌-◌, ◌/◌, ◌<◌, ◌≤◌}
+use native.Mathlib.Omega.{arith}
+use lib.ListN.{length}
+use borrow.Author.Count.{below_more}
+use borrow.Author.Rules.{rules}
+use Rattle.words.proofs.BelowLaws.{any_below_hit, any_below_none}
+use Rattle.arrows.specs.Placed.{waits}
+use Rattle.checker.proofs.places.is_unready.Given as goal
+
+abbrev pub invariant-loop-j : goal.invariant-loop-j
+invariant-loop-j l = (l.n ≡ length l.rows / 9) × (length l.rows ≤ 288) × (l.j ≤ l.n) × ((k : ℕ) → k < l.j → waits l.rows l.placed l.i k ≡ false)
+
+abbrev pub decreases-loop-j : goal.decreases-loop-j
+decreases-loop-j l = l.n - l.j

@@ -1,0 +1,18 @@
+use mathlib.Core.Path.{◌≡◌, refl, sym, ◌∙◌}
+use Prim.Native.Nat.{ℕ, ◌-◌, ◌/◌, ◌<◌, ◌≤◌}
+use native.Mathlib.Omega.{arith}
+use lib.ListN.{length, get_or, length-set}
+use lib.Seq.{get_or-set_same, get_or-set_other, ext_get_or}
+use borrow.Author.Count.{below_more}
+use borrow.Author.Rules.{rules}
+use borrow.Author.Tests.{lt-ltb, le-ltb}
+use Rattle.orders.specs.Arrow.{ticket_at}
+use Rattle.orders.specs.Entries.{entry_at}
+use Rattle.orders.proofs.EntriesLaws.{length_tickets}
+use Rattle.good.proofs.entries.tickets_at.Given as goal
+
+abbrev pub invariant-loop-s : goal.invariant-loop-s
+invariant-loop-s l = (l.i < length l.rows / 9) × (l.s ≤ 8) × (length l.own ≡ 8) × ((k : ℕ) → k < l.s → get_or l.own k 0 ≡ ticket_at (entry_at l.rows l.i).tickets k)
+
+abbrev pub decreases-loop-s : goal.decreases-loop-s
+decreases-loop-s l = 8 - l.s

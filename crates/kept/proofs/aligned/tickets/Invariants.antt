@@ -1,0 +1,14 @@
+use mathlib.Core.Path.{refl, sym}
+use mathlib.Core.Logic.{⊎_elim}
+use Prim.Native.Nat.{◌-◌, ◌<◌}
+use native.Mathlib.Omega.{arith}
+use borrow.Author.Rules.{rules}
+use Rattle.kept.specs.Aligned.{AlignedBelow}
+use Rattle.kept.proofs.AlignedLaws.{zeros, aligned_none, aligned_laid, aligned_skip, aligned_all}
+use Rattle.kept.proofs.aligned.tickets.Given as goal
+
+abbrev pub invariant-loop-i : goal.invariant-loop-i
+invariant-loop-i l = AlignedBelow l.t l.chosen l.i l.flat
+
+abbrev pub decreases-loop-i : goal.decreases-loop-i
+decreases-loop-i l = 32 - l.i

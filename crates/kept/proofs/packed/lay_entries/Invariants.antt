@@ -1,0 +1,23 @@
+use mathlib.Core.Path.{◌≡◌, refl, sym, ◌∙◌}
+use Prim.Native.Nat.{◌+◌, ◌-◌, ◌≤◌}
+use native.Mathlib.Numerals.{add-one}
+use native.Mathlib.Omega.{arith}
+use lib.ListN.{length, set, length-set}
+use lib.Seq.{paste, paste-zero, paste-suc}
+use borrow.Author.Rules.{rules}
+use Rattle.method.specs.Records.{tickets_of}
+use Rattle.method.proofs.RowLaws.{ticket_part, length_tickets}
+use Rattle.method.proofs.SearchLaws.{unmapped}
+use Rattle.kept.proofs.PackedLaws.{laid_entries}
+use Rattle.kept.proofs.packed.lay_entries.Given as goal
+
+abbrev pub invariant-loop-s : goal.invariant-loop-s
+invariant-loop-s l =     (l.s ≤ 8)
+    × (l.at + 9 ≤ 288)
+    × (length l.initial.flat ≡ 288)
+    × (length l.flat ≡ 288)
+    × (length l.row.parts ≡ 8)
+    × (l.flat ≡ paste l.initial.flat (l.at + 1) (tickets_of l.row) l.s)
+
+abbrev pub decreases-loop-s : goal.decreases-loop-s
+decreases-loop-s l = 8 - l.s

@@ -1,0 +1,15 @@
+use mathlib.Core.Path.{◌≡◌, refl}
+use Prim.Native.Nat.{◌-◌, ◌≤◌}
+use native.Mathlib.Omega.{arith}
+use lib.ListN.{length, take, length-set}
+use lib.Seq.{take_all}
+use borrow.Author.Rules.{rules}
+use Rattle.method.specs.Effects.{padded}
+use Rattle.openings.proofs.OpenLaws.{padded_set}
+use Rattle.openings.proofs.padded.Given as goal
+
+abbrev pub invariant-loop-i : goal.invariant-loop-i
+invariant-loop-i l = (l.i ≤ length l.floors) × (length l.floors ≤ 8) × (l.high ≡ padded 8 (take l.i l.floors)) × (length l.high ≡ 8)
+
+abbrev pub decreases-loop-i : goal.decreases-loop-i
+decreases-loop-i l = length l.floors - l.i

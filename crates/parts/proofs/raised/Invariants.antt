@@ -1,0 +1,16 @@
+use mathlib.Core.Path.{◌≡◌, refl, sym, ◌∙◌}
+use Prim.Native.Nat.{◌<◌}
+use native.Mathlib.Omega.{arith}
+use lib.ListN.{length, length-set}
+use borrow.Author.Rules.{rules}
+use Rattle.sites.specs.Sites.{sites_of, Turn}
+use Rattle.sites.proofs.ByteLaws.{turn, sites_zero}
+use Rattle.method.specs.Effects.{raised}
+use Rattle.method.proofs.SearchLaws.{unmapped}
+use Rattle.parts.proofs.raised.Given as goal
+
+abbrev pub invariant-loop-left : goal.invariant-loop-left
+invariant-loop-left l = (l.left < 256) × (raised l.row (sites_of l.row.sites) l.initial.tops ≡ raised l.row (sites_of l.left) l.tops) × (length l.tops ≡ 8)
+
+abbrev pub decreases-loop-left : goal.decreases-loop-left
+decreases-loop-left l = l.left

@@ -1,0 +1,15 @@
+use mathlib.Core.Path.{◌≡◌, refl, ◌∙◌}
+use Prim.Native.Nat.{◌≤◌, ◌-◌}
+use lib.ListN.{take}
+use borrow.Author.Rules.{rules}
+use Rattle.orders.specs.Arrow.{arrowb}
+use Rattle.orders.proofs.WalkLaws.{arrow_more}
+use Rattle.paths.specs.Paths.{ticket_row}
+use Rattle.paths.proofs.SiteLaws.{arrow_of_all}
+use Rattle.paths.proofs.arrows.goes_before.Given as goal
+
+abbrev pub invariant-loop-s : goal.invariant-loop-s
+invariant-loop-s l = (l.s ≤ 8) × (l.found ≡ arrowb (take l.s (ticket_row l.tickets l.i)) (take l.s (ticket_row l.tickets l.j)))
+
+abbrev pub decreases-loop-s : goal.decreases-loop-s
+decreases-loop-s l = 8 - l.s

@@ -1,0 +1,13 @@
+use mathlib.Core.Logic.{⊎_elim}
+use Prim.Native.Nat.{◌≤◌, ◌<◌, ◌-◌}
+use native.Mathlib.Omega.{arith}
+use borrow.Author.Rules.{rules}
+use Rattle.paths.specs.Entries.{After}
+use Rattle.paths.proofs.ClosureLaws.{after_none, after_step, after_skip, paths_of_all}
+use Rattle.paths.proofs.closure.paths.Given as goal
+
+abbrev pub invariant-loop-k : goal.invariant-loop-k
+invariant-loop-k l = (l.k ≤ 32) × After l.tickets l.k l.square
+
+abbrev pub decreases-loop-k : goal.decreases-loop-k
+decreases-loop-k l = 32 - l.k

@@ -1,0 +1,13 @@
+-- `paths::has_cycle` meets its contract: the diagonal has a yes, or was passed without one. Assumes nothing.
+use mathlib.Core.Path.{◌≡◌}
+use mathlib.Core.Bool.{false}
+use Prim.Native.Nat.{ℕ, ◌≤◌, ◌<◌, ◌-◌}
+use native.Mathlib.Omega.{arith}
+use borrow.Author.Count.{below_more}
+use borrow.Author.Rules.{rules}
+use Rattle.paths.specs.Entries.{entry}
+use Rattle.paths.proofs.CycleLaws.{cycle_of_yes, no_cycle_of_no}
+use Rattle.paths.proofs.has_cycle.Goals as goal
+
+pub returns : goal.returns
+returns c = record { answer = no_cycle_of_no c.args.tickets c.paths-square.result c.paths-square.ensures.answer (λ m h. c.loop-i.invariant.1 m (omega (arith, c.loop-i-test.false))) }

@@ -1,0 +1,17 @@
+use mathlib.Core.Path.{◌≡◌, sym, ◌∙◌}
+use Prim.Native.Nat.{◌≤◌, ◌-◌, ◌+◌}
+use native.Mathlib.Nat.{zero-add}
+use native.Mathlib.Omega.{arith}
+use lib.ListN.{length, drop}
+use borrow.Author.Rules.{rules}
+use Rattle.method.specs.Records.{past_end}
+use Rattle.method.specs.Slots.{first_at}
+use Rattle.slots.specs.Suiting.{suiting}
+use Rattle.method.proofs.SearchLaws.{first_hit, first_skip, first_end, unmapped}
+use Rattle.slots.proofs.first.Given as goal
+
+abbrev pub invariant-loop-i : goal.invariant-loop-i
+invariant-loop-i l = (l.i ≤ 32) × (first_at (suiting l.free l.n.0) l.t.rows ≡ l.i + first_at (suiting l.free l.n.0) (drop l.i l.t.rows)) × (length l.t.rows ≡ 32)
+
+abbrev pub decreases-loop-i : goal.decreases-loop-i
+decreases-loop-i l = 32 - l.i

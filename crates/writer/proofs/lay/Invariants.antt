@@ -1,0 +1,14 @@
+use mathlib.Core.Path.{◌≡◌, refl}
+use Prim.Native.Nat.{◌-◌, ◌≤◌}
+use native.Mathlib.Omega.{arith}
+use lib.ListN.{length, length-set}
+use lib.Seq.{paste, paste-zero}
+use borrow.Author.Rules.{rules}
+use Rattle.endian.proofs.PartLaws.{paste_more, laid_of_front}
+use Rattle.writer.proofs.lay.Given as goal
+
+abbrev pub invariant-loop-i : goal.invariant-loop-i
+invariant-loop-i l = (l.i ≤ l.n) × (l.n ≤ length l.initial.out) × (l.n ≤ length l.numbers) × (length l.out ≡ length l.initial.out) × (l.out ≡ paste l.initial.out 0 l.numbers l.i)
+
+abbrev pub decreases-loop-i : goal.decreases-loop-i
+decreases-loop-i l = l.n - l.i
