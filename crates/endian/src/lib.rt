@@ -1,6 +1,7 @@
 // Big-endian numbers read from a byte slice, and bytes laid into one, at a place. Every function takes any place: past the end a
 // reader finds zeros and the writer refuses. Rests on specs/Places.antt and specs/Laid.antt.
 #![tactic(auto)]
+
 ghost use Rattle.std.specs.Prelude.{◌≡◌, length, get_or};
 ghost use Rattle.endian.specs.Bytes.{be16, be32, words};
 ghost use Rattle.endian.specs.Places.{word16, word32};

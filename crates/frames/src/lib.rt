@@ -1,5 +1,6 @@
 // Frames: from bytes to the body that stands in front of them. Rests on specs/Frame.antt.
 #![tactic(auto)]
+
 ghost use Rattle.std.specs.Prelude.{◌≡◌};
 ghost use Rattle.frames.specs.Frame.{next_frame};
 ghost use Rattle.frames.specs.Answer.{frame_answer};

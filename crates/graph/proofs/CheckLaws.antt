@@ -1,6 +1,6 @@
 -- The test `orderb` passes exactly the orders, where no two rows have the same number. Assumes nothing.
 -- A number missing from an order that is otherwise sound would make it shorter than the rows are many.
-use mathlib.Core.Path.{◌≡◌, refl, sym, ap, ◌∙◌}
+use mathlib.Core.Path.{◌≡◌, refl, sym}
 use mathlib.Core.Bool.{Bool, true, false, not, ◌&&◌}
 use mathlib.Core.List.Memᴰ
 use mathlib.Core.List.{List, [], ◌∷◌, ◌++◌, map, append-nil}

@@ -1,5 +1,5 @@
 -- What a path of arrows, possibly of none, reaches from the members that are marked: the meaning, and the test that computes it.
-use Rattle.std.specs.Prelude.{◌≡◌, Bool, true, ◌||◌, List, [], ◌⊎◌, ℕ, zero, suc, length}
+use Rattle.std.specs.Prelude.{◌≡◌, Bool, ◌||◌, List, [], ◌⊎◌, ℕ, zero, suc, length}
 use Rattle.graph.specs.Lists.{◌∈◌, keep}
 use Rattle.graph.specs.Path.{ArrowPath}
 use Rattle.graph.specs.Acyclic.{into}

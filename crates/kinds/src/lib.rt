@@ -1,5 +1,6 @@
 // The lengths of bodies, kind by kind. The same table stands in specs/Kinds.antt, which says what its columns mean.
 #![tactic(auto)]
+
 ghost use Rattle.std.specs.Prelude.{◌≡◌, ◌<◌};
 ghost use Rattle.kinds.specs.Kinds.{row_of, entries_in, entries_of, count_of};
 

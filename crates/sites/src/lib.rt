@@ -5,6 +5,7 @@
 //     while left != 0 { let s = u8::trailing_zeros(left) as usize; ..; left = left & (left - 1); }
 // and its proof cites `turn` of proofs/ByteLaws.antt: what was left is s, and then what is left now.
 #![tactic(auto)]
+
 ghost use Rattle.std.specs.Prelude.{◌≡◌};
 ghost use Rattle.sites.specs.Sites.{listed, sites_used, outsideb};
 

@@ -1,6 +1,7 @@
 // A set of numbers below 32, in a word: bit i says whether i is in it. The laws between the operations on words and the sets they
 // mean are in proofs/WordLaws.antt.
 #![tactic(auto)]
+
 ghost use Rattle.std.specs.Prelude.{◌≡◌, ◌%◌};
 ghost use Rattle.words.specs.Word.{has as has_of, with as withOf};
 

@@ -1,11 +1,8 @@
-use mathlib.Core.Path.{◌≡◌, refl}
+use mathlib.Core.Path.{◌≡◌}
 use Prim.Native.Nat.{◌-◌, ◌/◌, ◌≤◌}
-use native.Mathlib.Omega.{arith}
-use lib.ListN.{length, length-set}
-use lib.Seq.{paste, paste-zero}
+use lib.ListN.{length}
+use lib.Seq.{paste}
 use Rattle.endian.specs.Bytes.{words}
-use Rattle.endian.proofs.LaidLaws.{stored_of_room, stored_of_no_room, laid_of_paste}
-use Rattle.endian.proofs.WordsLaws.{length_words, paste_words_more}
 use Rattle.endian.proofs.get_words.Given as goal
 
 abbrev pub invariant-loop-i : goal.invariant-loop-i

@@ -1,15 +1,13 @@
 -- `endian::put` meets its contract: after i turns the first i bytes are copied, and all else is as it was. Assumes nothing.
-use mathlib.Core.Path.{◌≡◌, refl}
-use Prim.Native.Nat.{◌+◌, ◌-◌, ◌≤◌}
+use mathlib.Core.Path.{refl}
 use native.Mathlib.Numerals.{add-one}
 use native.Mathlib.Omega.{arith}
-use lib.ListN.{length, length-set}
-use lib.Seq.{paste, paste-zero, paste-suc}
-use Rattle.endian.proofs.LaidLaws.{stored_of_room, stored_of_no_room, laid_of_paste}
+use lib.ListN.{length-set}
+use lib.Seq.{paste-suc}
 use Rattle.endian.proofs.put.Goals as goal
 
 pub loop-i-preserved : goal.loop-i-preserved
-loop-i-preserved c =     let a = c.args in
+loop-i-preserved c = let a = c.args in
     let i = c.loop-i.i in (
       omega arith,
       refl,

@@ -1,10 +1,7 @@
-use mathlib.Core.Path.{◌≡◌, refl}
+use mathlib.Core.Path.{◌≡◌}
 use Prim.Native.Nat.{◌+◌, ◌-◌, ◌≤◌}
-use native.Mathlib.Numerals.{add-one}
-use native.Mathlib.Omega.{arith}
-use lib.ListN.{length, length-set}
-use lib.Seq.{paste, paste-zero, paste-suc}
-use Rattle.endian.proofs.LaidLaws.{stored_of_room, stored_of_no_room, laid_of_paste}
+use lib.ListN.{length}
+use lib.Seq.{paste}
 use Rattle.endian.proofs.put.Given as goal
 
 abbrev pub invariant-loop-i : goal.invariant-loop-i

@@ -46,12 +46,12 @@ unfolding next_frame
 returns-then-n-lt3 c = simp (ne_eqb _ _ c.if-n-eq0.false, eq-eqb _ _ c.if-msg-ne1.false, lt-ltb _ _ c.if-n-lt3.true)
 
 pub returns-then-len-gt160 : goal.returns-then-len-gt160
-returns-then-len-gt160 c =     rw (past ((goal.at.returns-then-len-gt160 c).After-get16-len), lt-ltb 160 (size ((goal.at.returns-then-len-gt160 c).After-get16-len)) (omega (arith, c.get16-len.ensures)))
+returns-then-len-gt160 c = rw (past ((goal.at.returns-then-len-gt160 c).After-get16-len), lt-ltb 160 (size ((goal.at.returns-then-len-gt160 c).After-get16-len)) (omega (arith, c.get16-len.ensures)))
 
 pub returns-then-n-len : goal.returns-then-n-len
-returns-then-n-len c =     rw (fine ((goal.at.returns-then-n-len c).After-get16-len) (omega (arith, c.get16-len.ensures)), lt-ltb (length (bytes_at ((goal.at.returns-then-n-len c).After-get16-len))) (3 + size ((goal.at.returns-then-n-len c).After-get16-len)) (omega (arith, c.get16-len.ensures)))
+returns-then-n-len c = rw (fine ((goal.at.returns-then-n-len c).After-get16-len) (omega (arith, c.get16-len.ensures)), lt-ltb (length (bytes_at ((goal.at.returns-then-n-len c).After-get16-len))) (3 + size ((goal.at.returns-then-n-len c).After-get16-len)) (omega (arith, c.get16-len.ensures)))
 
 pub returns : goal.returns
-returns c =     let e = c.get16-len.ensures in
+returns c = let e = c.get16-len.ensures in
     let body = length-take-le (size ((goal.at.returns c).After-get16-len)) (drop 3 (bytes_at ((goal.at.returns c).After-get16-len))) (simp length-drop (omega (arith, e))) in
     rw (fine ((goal.at.returns c).After-get16-len) (omega (arith, c.get16-len.ensures)), le-ltb (length (bytes_at ((goal.at.returns c).After-get16-len))) (3 + size ((goal.at.returns c).After-get16-len)) (omega (arith, e)), body, e)

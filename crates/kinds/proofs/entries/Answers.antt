@@ -1,8 +1,6 @@
 -- `kinds::entries` meets its contract: the row that the code has is the definition's. Assumes nothing.
-use borrow.Author.Rules.{rules}
 use borrow.Author.Tests.{lt-ltb, le-ltb}
 use Rattle.kinds.specs.Kinds.{entries_of}
-use Rattle.kinds.proofs.KindsLaws.{step_pos}
 use Rattle.kinds.proofs.entries.Goals as goal
 
 pub returns-then-kind-ge10 : goal.returns-then-kind-ge10

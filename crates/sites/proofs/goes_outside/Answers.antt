@@ -1,7 +1,6 @@
 -- `sites::goes_outside` meets its contract: `x >> n` holds the sites from n on, and there is none from 8 on. Assumes nothing.
 use mathlib.Core.Path.{sym}
 use native.Mathlib.Omega.{arith}
-use borrow.Author.Rules.{rules}
 use Rattle.sites.proofs.ByteLaws.{outside_shift}
 use Rattle.sites.proofs.SitesLaws.{not_outside_past}
 use Rattle.sites.proofs.goes_outside.Goals as goal
