@@ -1,6 +1,7 @@
 // A number as decimal digits in a byte slice. Rests on `endian` and on specs/Decimal.antt. The digits are counted by the definition's
 // recursion, which the compiler makes a loop of, and then written from the last one on.
 #![tactic(auto)]
+
 ghost use Rattle.std.specs.Prelude.{◌≡◌, ◌+◌, ◌≤◌, length};
 ghost use Rattle.endian.specs.Laid.{laid, stored};
 ghost use Rattle.decimal.specs.Decimal.{decimal};

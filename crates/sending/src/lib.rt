@@ -1,5 +1,6 @@
 // From a body to its message in a lent buffer. A refusal changes no byte.
 #![tactic(auto)]
+
 ghost use Rattle.std.specs.Prelude.{◌≡◌};
 ghost use Rattle.sending.specs.Writing.{write_answer, written};
 

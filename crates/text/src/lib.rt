@@ -1,5 +1,6 @@
 // A word, numbers each behind a space, and a newline, written into a lent buffer. Rests on `endian`, `decimal` and on specs/Text.antt.
 #![tactic(auto)]
+
 ghost use Rattle.std.specs.Prelude.{◌≡◌, [], ◌∷◌, ◌+◌, ◌-◌, ◌≤◌, min, length, take};
 ghost use Rattle.endian.specs.Laid.{laid, stored};
 ghost use Rattle.decimal.specs.Written.{written_count};

@@ -1,10 +1,8 @@
-use mathlib.Core.Path.{◌≡◌, refl}
-use Prim.Native.Nat.{◌+◌, ◌-◌, ◌≤◌}
-use native.Mathlib.Omega.{arith}
-use lib.ListN.{length, length-set}
+use mathlib.Core.Path.{◌≡◌}
+use Prim.Native.Nat.{◌+◌, ◌≤◌}
+use lib.ListN.{length}
 use Rattle.decimal.specs.Decimal.{decimal}
 use Rattle.decimal.specs.Spelling.{Spelling}
-use Rattle.decimal.proofs.SpellingLaws.{spelling_none, spelling_more, spelling_all}
 use Rattle.decimal.proofs.spell.Given as goal
 
 abbrev pub invariant-loop-k : goal.invariant-loop-k

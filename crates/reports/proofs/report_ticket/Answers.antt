@@ -29,84 +29,78 @@ use Rattle.reports.proofs.report_ticket.Goals as goal
 
 -- what the call was handed
 module _ (c : After-enter) where
-  abbrev t : Table
-  t = c.args.t
-
-  abbrev n : ℕ
-  n = c.args.n.0
-
-  abbrev s : ℕ
-  s = c.args.s
-
-  abbrev k : ℕ
-  k = c.args.k.0
-
-  slots : length t.rows ≡ 32
+  slots : length c.args.t.rows ≡ 32
   slots = search (rules, unmapped)
 
 -- past the gate
 module _ (c : In-At) where
-
-  abbrev slot : ℕ
-  slot = c.in-At.slot
-
-  at : gate_of (t c⟪After-enter⟫) (n c⟪After-enter⟫) ≡ Gate.At slot
+  at : gate_of c.args.t c.args.n.0 ≡ Gate.At c.in-At.slot
   at = sym c.enter.ensures.answer ∙ c.in-At.is
 
-  inside : slot < 32
-  inside = report_inside (t c⟪After-enter⟫) (slots c⟪After-enter⟫) (n c⟪After-enter⟫) (s c⟪After-enter⟫) Report.Ticket (own (t c⟪After-enter⟫) (n c⟪After-enter⟫) (s c⟪After-enter⟫) (k c⟪After-enter⟫)) (report_ticket (n c⟪After-enter⟫) (s c⟪After-enter⟫) (k c⟪After-enter⟫)) (ticket_checks (t c⟪After-enter⟫) (n c⟪After-enter⟫) (s c⟪After-enter⟫) (k c⟪After-enter⟫)) slot at
+  rows : length c.args.t.rows ≡ 32
+  rows = search (rules, unmapped)
 
--- past the place
-module _ (c : In-To) where
+  inside : c.in-At.slot < 32
+  inside = report_inside c.args.t rows c.args.n.0 c.args.s Report.Ticket (own c.args.t c.args.n.0 c.args.s c.args.k.0) (report_ticket c.args.n.0 c.args.s c.args.k.0) (ticket_checks c.args.t c.args.n.0 c.args.s c.args.k.0) c.in-At.slot at
 
-  abbrev g : Stage
-  g = c.in-To.g
-
-  to : place_of (row_at (t (gate c⟪After-known_told2⟫)) (slot c⟪After-known_told2⟫)) (s (gate c⟪After-known_told2⟫)) Report.Ticket ≡ Place.To g
+-- past the place: `l` and `a` are what stands past the gate
+module _ (c : In-To) (l : length c.args.t.rows ≡ 32) (a : gate_of c.args.t c.args.n.0 ≡ Gate.At c.in-At.slot) where
+  to : place_of (row_at c.args.t c.in-At.slot) c.args.s Report.Ticket ≡ Place.To c.in-To.g
   to = sym c.next_place.ensures.answer ∙ c.in-To.is
 
-  site : s (gate c⟪After-known_told2⟫) < 8
-  site = let e = gate c⟪After-known_told2⟫ in report_site (t e) (slots e) (n e) (s e) Report.Ticket (own (t e) (n e) (s e) (k e)) (report_ticket (n e) (s e) (k e)) (ticket_checks (t e) (n e) (s e) (k e)) (slot c⟪After-known_told2⟫) (at c⟪After-known_told2⟫) g to
+  site : c.args.s < 8
+  site = report_site c.args.t l c.args.n.0 c.args.s Report.Ticket (own c.args.t c.args.n.0 c.args.s c.args.k.0) (report_ticket c.args.n.0 c.args.s c.args.k.0) (ticket_checks c.args.t c.args.n.0 c.args.s c.args.k.0) c.in-At.slot a c.in-To.g to
 
--- behind the shared checks: what stops it now stops the call
-module _ (c : In-To) where
-  abbrev e : tie.After-enter
-  e = gate (found c)
+  -- behind the shared checks: what stops it now stops the call
+  stops : (x : ℕ) → first_true (own c.args.t c.args.n.0 c.args.s c.args.k.0) ≡ some x → step c.args.t (report_ticket c.args.n.0 c.args.s c.args.k.0) ≡ answered c.args.t (Answer.Refused x)
+  stops x f = stopped c.args.t (report_ticket c.args.n.0 c.args.s c.args.k.0) x (report_on c.args.t l c.args.n.0 c.args.s Report.Ticket (own c.args.t c.args.n.0 c.args.s c.args.k.0) (report_ticket c.args.n.0 c.args.s c.args.k.0) (ticket_checks c.args.t c.args.n.0 c.args.s c.args.k.0) c.in-At.slot a c.in-To.g to ∙ f)
 
-  stops : (x : ℕ) → first_true (own (t e) (n e) (s e) (k e)) ≡ some x → step (t e) (report_ticket (n e) (s e) (k e)) ≡ answered (t e) (Answer.Refused x)
-  stops x f = stopped (t e) (report_ticket (n e) (s e) (k e)) x (report_on (t e) (slots e) (n e) (s e) Report.Ticket (own (t e) (n e) (s e) (k e)) (report_ticket (n e) (s e) (k e)) (ticket_checks (t e) (n e) (s e) (k e)) (slot (found c)) (at (found c)) (g c) (to c) ∙ f)
+  base : (part_at (row_at c.args.t c.in-At.slot) c.args.s).base.0 ≡ (part_at (row_of_number c.args.t c.args.n.0) c.args.s).base.0
+  base = report_base c.args.t l c.args.n.0 c.args.s Report.Ticket (own c.args.t c.args.n.0 c.args.s c.args.k.0) (report_ticket c.args.n.0 c.args.s c.args.k.0) (ticket_checks c.args.t c.args.n.0 c.args.s c.args.k.0) c.in-At.slot a c.in-To.g to
 
-  base : (part_at (row_at (t e) (slot (found c))) (s e)).base.0 ≡ (part_at (row_of_number (t e) (n e)) (s e)).base.0
-  base = report_base (t e) (slots e) (n e) (s e) Report.Ticket (own (t e) (n e) (s e) (k e)) (report_ticket (n e) (s e) (k e)) (ticket_checks (t e) (n e) (s e) (k e)) (slot (found c)) (at (found c)) (g c) (to c)
+pub offset_bounds-t-slot : goal.offset_bounds-t-slot
+offset_bounds-t-slot c = omega (arith, inside (goal.at.offset_bounds-t-slot c).In-At)
+
+pub bounds-t-slot : goal.bounds-t-slot
+bounds-t-slot c = inside (goal.at.bounds-t-slot c).In-At
+
+pub bounds-row-site : goal.bounds-row-site
+bounds-row-site c = let w = goal.at.bounds-row-site c in site w.In-To (rows w.In-At) (at w.In-At)
+
+pub returns-then-k-base : goal.returns-then-k-base
+returns-then-k-base c =
+    let w = goal.at.returns-then-k-base c in let l = rows w.In-At in let a = at w.In-At in
+    record { answer = c.refuse-then-k-base.ensures.answer ∙ sym (stops w.In-To l a 5 (ticket_below c.args.t c.args.n.0 c.args.s c.args.k.0 _ (base w.In-To l a) c.if-k-base.true)) }
+
+pub returns-then-is_taken : goal.returns-then-is_taken
+returns-then-is_taken c =
+    let w = goal.at.returns-then-is_taken c in let l = rows w.In-At in let a = at w.In-At in
+    record { answer = c.refuse-then-is_taken.ensures.answer
+    ∙ sym (stops w.In-To l a 6 (ticket_rival c.args.t c.args.n.0 c.args.s c.args.k.0 _ (base w.In-To l a) c.if-k-base.false (sym c.is_taken.ensures.answer ∙ c.if-is_taken.true))) }
+
+pub with_part-requires : goal.with_part-requires
+with_part-requires c = let w = goal.at.with_part-requires c in (inside w.In-At, site w.In-To (rows w.In-At) (at w.In-At))
+
+pub returns-in-Refused : goal.returns-in-Refused
+returns-in-Refused c =
+    let r : gate_of c.args.t c.args.n.0 ≡ Gate.Refused c.in-Refused.x = sym c.enter.ensures.answer ∙ c.in-Refused.is in
+    let l = slots (goal.at.returns-in-Refused c).After-enter in
+    record { answer = c.refuse.ensures.answer ∙ sym (report_unknown c.args.t l c.args.n.0 c.args.s Report.Ticket (own c.args.t c.args.n.0 c.args.s c.args.k.0) (report_ticket c.args.n.0 c.args.s c.args.k.0) (ticket_checks c.args.t c.args.n.0 c.args.s c.args.k.0) _ r) }
+
+pub returns-in-Refused-next_place : goal.returns-in-Refused-next_place
+returns-in-Refused-next_place c =
+    let w = goal.at.returns-in-Refused-next_place c in
+    let r : place_of (row_at c.args.t c.in-At.slot) c.args.s Report.Ticket ≡ Place.Refused c.in-Refused-next_place.y =
+        sym c.next_place.ensures.answer ∙ c.in-Refused-next_place.is in
+    record { answer = c.refuse-in-Refused-next_place.ensures.answer
+    ∙ sym (report_misplaced c.args.t (rows w.In-At) c.args.n.0 c.args.s Report.Ticket (own c.args.t c.args.n.0 c.args.s c.args.k.0) (report_ticket c.args.n.0 c.args.s c.args.k.0) (ticket_checks c.args.t c.args.n.0 c.args.s c.args.k.0) c.in-At.slot (at w.In-At) _ r) }
 
 done : (t : Table) (n s k : ℕ) → effect t (report_ticket n s k) ≡ answered (with_row t (slot_of t n) (reported (row_of_number t n) s Report.Ticket (ticket k))) Answer.Done
 unfolding effect
 done t n s k = refl
 
-pub offset_bounds-t-slot : goal.offset_bounds-t-slot
-offset_bounds-t-slot c = omega (arith, inside ((goal.at.offset_bounds-t-slot c).In-At))
-
-pub bounds-t-slot : goal.bounds-t-slot
-bounds-t-slot c = inside ((goal.at.bounds-t-slot c).In-At)
-
-pub bounds-row-site : goal.bounds-row-site
-bounds-row-site c = site ((goal.at.bounds-row-site c).In-To)
-
-pub returns-then-k-base : goal.returns-then-k-base
-returns-then-k-base c = record { answer = c.refuse-then-k-base.ensures.answer ∙ sym (stops ((goal.at.returns-then-k-base c).In-To) 5 (ticket_below (t (e ((goal.at.returns-then-k-base c).In-To))) (n (e ((goal.at.returns-then-k-base c).In-To))) (s (e ((goal.at.returns-then-k-base c).In-To))) (k (e ((goal.at.returns-then-k-base c).In-To))) _ (base ((goal.at.returns-then-k-base c).In-To)) c.if-k-base.true)) }
-
-pub returns-then-is_taken : goal.returns-then-is_taken
-returns-then-is_taken c = record { answer = c.refuse-then-is_taken.ensures.answer ∙ sym (stops ((goal.at.returns-then-is_taken c).In-To) 6 (ticket_rival (t (e ((goal.at.returns-then-is_taken c).In-To))) (n (e ((goal.at.returns-then-is_taken c).In-To))) (s (e ((goal.at.returns-then-is_taken c).In-To))) (k (e ((goal.at.returns-then-is_taken c).In-To))) _ (base ((goal.at.returns-then-is_taken c).In-To)) c.if-k-base.false (sym c.is_taken.ensures.answer ∙ c.if-is_taken.true))) }
-
-pub with_part-requires : goal.with_part-requires
-with_part-requires c = (inside (found ((goal.at.with_part-requires c).In-To)), site ((goal.at.with_part-requires c).In-To))
-
-pub returns-in-Refused : goal.returns-in-Refused
-returns-in-Refused c =     let r : gate_of (t ((goal.at.returns-in-Refused c).After-enter)) (n ((goal.at.returns-in-Refused c).After-enter)) ≡ Gate.Refused c.in-Refused.x = sym c.enter.ensures.answer ∙ c.in-Refused.is in record { answer = c.refuse.ensures.answer ∙ sym (report_unknown (t ((goal.at.returns-in-Refused c).After-enter)) (slots ((goal.at.returns-in-Refused c).After-enter)) (n ((goal.at.returns-in-Refused c).After-enter)) (s ((goal.at.returns-in-Refused c).After-enter)) Report.Ticket (own (t ((goal.at.returns-in-Refused c).After-enter)) (n ((goal.at.returns-in-Refused c).After-enter)) (s ((goal.at.returns-in-Refused c).After-enter)) (k ((goal.at.returns-in-Refused c).After-enter))) (report_ticket (n ((goal.at.returns-in-Refused c).After-enter)) (s ((goal.at.returns-in-Refused c).After-enter)) (k ((goal.at.returns-in-Refused c).After-enter))) (ticket_checks (t ((goal.at.returns-in-Refused c).After-enter)) (n ((goal.at.returns-in-Refused c).After-enter)) (s ((goal.at.returns-in-Refused c).After-enter)) (k ((goal.at.returns-in-Refused c).After-enter))) _ r) }
-
-pub returns-in-Refused-next_place : goal.returns-in-Refused-next_place
-returns-in-Refused-next_place c =     let e = gate ((goal.at.returns-in-Refused-next_place c).In-At) in
-    let r : place_of (row_at (t e) (slot ((goal.at.returns-in-Refused-next_place c).In-At))) (s e) Report.Ticket ≡ Place.Refused c.in-Refused-next_place.y = sym c.next_place.ensures.answer ∙ c.in-Refused-next_place.is in record { answer = c.refuse-in-Refused-next_place.ensures.answer ∙ sym (report_misplaced (t e) (slots e) (n e) (s e) Report.Ticket (own (t e) (n e) (s e) (k e)) (report_ticket (n e) (s e) (k e)) (ticket_checks (t e) (n e) (s e) (k e)) (slot ((goal.at.returns-in-Refused-next_place c).In-At)) (at ((goal.at.returns-in-Refused-next_place c).In-At)) _ r) }
-
 pub returns-else-is_taken : goal.returns-else-is_taken
-returns-else-is_taken c =     let free = ticket_free (t (e ((goal.at.returns-else-is_taken c).In-To))) (n (e ((goal.at.returns-else-is_taken c).In-To))) (s (e ((goal.at.returns-else-is_taken c).In-To))) (k (e ((goal.at.returns-else-is_taken c).In-To))) _ (base ((goal.at.returns-else-is_taken c).In-To)) c.if-k-base.false (sym c.is_taken.ensures.answer ∙ c.if-is_taken.false) in record { answer = report_done (t (e ((goal.at.returns-else-is_taken c).In-To))) (slots (e ((goal.at.returns-else-is_taken c).In-To))) (n (e ((goal.at.returns-else-is_taken c).In-To))) (s (e ((goal.at.returns-else-is_taken c).In-To))) Report.Ticket (own (t (e ((goal.at.returns-else-is_taken c).In-To))) (n (e ((goal.at.returns-else-is_taken c).In-To))) (s (e ((goal.at.returns-else-is_taken c).In-To))) (k (e ((goal.at.returns-else-is_taken c).In-To)))) (report_ticket (n (e ((goal.at.returns-else-is_taken c).In-To))) (s (e ((goal.at.returns-else-is_taken c).In-To))) (k (e ((goal.at.returns-else-is_taken c).In-To)))) (ticket_checks (t (e ((goal.at.returns-else-is_taken c).In-To))) (n (e ((goal.at.returns-else-is_taken c).In-To))) (s (e ((goal.at.returns-else-is_taken c).In-To))) (k (e ((goal.at.returns-else-is_taken c).In-To)))) (slot (found ((goal.at.returns-else-is_taken c).In-To))) (at (found ((goal.at.returns-else-is_taken c).In-To))) (g ((goal.at.returns-else-is_taken c).In-To)) (to ((goal.at.returns-else-is_taken c).In-To)) (λ (r : Row). ticket (k (e ((goal.at.returns-else-is_taken c).In-To)))) free (done (t (e ((goal.at.returns-else-is_taken c).In-To))) (n (e ((goal.at.returns-else-is_taken c).In-To))) (s (e ((goal.at.returns-else-is_taken c).In-To))) (k (e ((goal.at.returns-else-is_taken c).In-To)))) c.with_part.result c.with_part.ensures.answer }
+returns-else-is_taken c =
+    let w = goal.at.returns-else-is_taken c in let l = rows w.In-At in let a = at w.In-At in
+    let free = ticket_free c.args.t c.args.n.0 c.args.s c.args.k.0 _ (base w.In-To l a) c.if-k-base.false (sym c.is_taken.ensures.answer ∙ c.if-is_taken.false) in
+    record { answer = report_done c.args.t l c.args.n.0 c.args.s Report.Ticket (own c.args.t c.args.n.0 c.args.s c.args.k.0) (report_ticket c.args.n.0 c.args.s c.args.k.0) (ticket_checks c.args.t c.args.n.0 c.args.s c.args.k.0) c.in-At.slot a c.in-To.g (to w.In-To l a) (λ (r : Row). ticket c.args.k.0) free (done c.args.t c.args.n.0 c.args.s c.args.k.0) c.with_part.result c.with_part.ensures.answer }

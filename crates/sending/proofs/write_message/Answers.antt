@@ -5,13 +5,12 @@ use mathlib.Core.List.{List, [], ◌∷◌}
 use Prim.Native.Nat.{ℕ, ◌+◌, ◌/◌, ◌%◌}
 use native.Mathlib.Omega.{arith}
 use lib.ListN.{length, get_or}
-use borrow.Author.Rules.{rules}
 use Rattle.endian.proofs.LaidLaws.{stored_of_stored}
 use Rattle.kinds.specs.declared.Count.{Count}
 use Rattle.sending.specs.declared.WriteAnswer.{WriteAnswer}
 use Rattle.kinds.specs.Kinds.{entries_of, count_of}
 use Rattle.frames.specs.Frame.{frame_of}
-use Rattle.sending.proofs.WritingLaws.{too_long, wrong, no_room, room}
+use Rattle.sending.proofs.WritingLaws.{room}
 use Rattle.sending.proofs.write_message.Goals.{After-entries}
 use Rattle.sending.proofs.write_message.Goals as goal
 
@@ -30,7 +29,7 @@ module _ (c : After-entries) where
   counted r e = rw (← c.get8-kind.ensures) (sym c.entries.ensures ∙ e)
 
 pub returns : goal.returns
-returns c =     let n = c.in-Entries.field-0 in
+returns c = let n = c.in-Entries.field-0 in
     let b = body_at ((goal.at.returns c).After-entries) in
     let header : List ℕ = 1 ∷ (length b / 256) ∷ (length b % 256) ∷ [] in
     let r = room b (out_at ((goal.at.returns c).After-entries)) (place_at ((goal.at.returns c).After-entries)) c.if-n-gt160.false n (counted ((goal.at.returns c).After-entries) (Count.Entries n) c.in-Entries.is) (omega arith) in

@@ -1,10 +1,7 @@
 use mathlib.Core.Path.{◌≡◌}
 use Prim.Native.Nat.{◌-◌, ◌≤◌}
-use native.Mathlib.Omega.{arith}
-use lib.ListN.{get_or, length, take}
+use lib.ListN.{length, take}
 use Rattle.text.specs.Text.{spaced}
-use Rattle.decimal.proofs.DecimalLaws.{length_decimal_32}
-use Rattle.text.proofs.SpacedLaws.{length_spaced_nil, length_spaced_more}
 use Rattle.text.proofs.left_behind.Given as goal
 
 abbrev pub invariant-loop-i : goal.invariant-loop-i

@@ -3,16 +3,15 @@
 use mathlib.Core.Path.{◌∙◌}
 use Prim.Native.Nat.{◌+◌, ◌≤◌}
 use native.Mathlib.Omega.{arith}
-use lib.ListN.{length, take, length-set}
-use borrow.Author.Rules.{rules}
+use lib.ListN.{length, take}
 use Rattle.text.specs.Text.{text_of}
 use Rattle.text.proofs.SpacedLaws.{length_text}
-use Rattle.decimal.proofs.WrittenLaws.{written_of_room, written_of_no_room}
+use Rattle.decimal.proofs.WrittenLaws.{written_of_room}
 use Rattle.text.proofs.StoreLaws.{laid_of_text}
 use Rattle.text.proofs.put_first.Goals as goal
 
 pub returns : goal.returns
-returns c =     let a = c.args in
+returns c = let a = c.args in
     let l = a.out.now in
     let w = a.word.now in
     let ns = take a.n a.numbers.now in

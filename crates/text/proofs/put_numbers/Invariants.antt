@@ -1,13 +1,8 @@
-use mathlib.Core.List.{[], ◌∷◌}
-use mathlib.Core.Path.{◌≡◌, ◌∙◌, refl}
+use mathlib.Core.Path.{◌≡◌}
 use Prim.Native.Nat.{◌+◌, ◌-◌, ◌≤◌}
-use native.Mathlib.Omega.{arith}
-use lib.ListN.{get_or, length, take}
+use lib.ListN.{length, take}
 use Rattle.endian.specs.Laid.{laid}
-use Rattle.endian.proofs.LaidLaws.{laid_of_laid}
 use Rattle.text.specs.Text.{spaced}
-use Rattle.text.proofs.SpacedLaws.{spaced_nil, length_spaced_nil, spaced_take_more, length_spaced_more, length_spaced_take, length_spaced_one}
-use Rattle.decimal.proofs.WrittenLaws.{laid_of_nil}
 use Rattle.text.proofs.put_numbers.Given as goal
 
 abbrev pub invariant-loop-i : goal.invariant-loop-i

@@ -5,7 +5,7 @@ use Prim.Native.Nat.{ℕ}
 use lib.ListN.{length, get_or}
 use Rattle.kinds.specs.declared.Count.{Count}
 use Rattle.kinds.specs.Kinds.{entries_of, count_of}
-use Rattle.wire.proofs.AnswerLaws.{answer_of_wrong, answer_of_count}
+use Rattle.wire.proofs.AnswerLaws.{answer_of_count}
 use Rattle.wire.proofs.reader.read_body.Goals.{After-entries}
 use Rattle.wire.proofs.reader.read_body.Goals as goal
 
@@ -17,6 +17,6 @@ counted : (c : After-entries) (r : Count) → c.entries.result ≡ r → count_o
 counted c r e = rw (← c.get8-kind.ensures) (sym c.entries.ensures ∙ e)
 
 pub returns : goal.returns
-returns c =     let n = c.in-Entries.n in
+returns c = let n = c.in-Entries.n in
     rw (c.request_at.ensures, c.get8-kind.ensures, c.get8-sites.ensures, c.get32-number.ensures, c.get8-site.ensures, c.get32-ticket.ensures)
     (answer_of_count (body_at ((goal.at.returns c).After-entries)) n (counted ((goal.at.returns c).After-entries) (Count.Entries n) c.in-Entries.is))

@@ -3,13 +3,12 @@
 use mathlib.Core.Path.{◌≡◌, ◌∙◌, sym}
 use mathlib.Core.List.{List}
 use Prim.Native.Nat.{ℕ}
-use native.Mathlib.Omega.{arith}
 use Rattle.wire.specs.declared.reader.BodyAnswer.{BodyAnswer}
 use Rattle.wire.specs.Body.{message_of}
 use Rattle.frames.specs.Frame.{body_to, EndsAt, next_frame}
 use Rattle.wire.specs.Answers.{body_answer, with_end, read_answer}
 use Rattle.frames.proofs.FrameLaws.{means_next}
-use Rattle.wire.proofs.AnswerLaws.{part_of_answer, read_of_not_yet, read_of_bad}
+use Rattle.wire.proofs.AnswerLaws.{part_of_answer}
 use Rattle.wire.proofs.reader.read_message.Goals.{In-Whole}
 use Rattle.wire.proofs.reader.read_message.Goals as goal
 

@@ -45,7 +45,7 @@ returns-in-8 c = rw c.in-8.is
 
 pub returns-in_default : goal.returns-in_default
 unfolding request_at
-returns-in_default c =     let r8 = c.in_default.in_default-own.rest in
+returns-in_default c = let r8 = c.in_default.in_default-own.rest in
     let r7 = r8.0 in
     let r6 = r7.0 in
     let r5 = r6.0 in
