@@ -1,5 +1,6 @@
 // The arrows between the rows of a flat ticket table, nine entries a row. RULES, Orders.
 #![tactic(auto)]
+
 ghost use Rattle.std.specs.Prelude.{◌≡◌, ◌<◌, ◌≤◌, ◌/◌, length};
 ghost use Rattle.orders.specs.Arrow.{ticket_at};
 ghost use Rattle.orders.specs.Entries.{entry_at, entry_arrowb};

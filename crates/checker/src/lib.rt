@@ -1,6 +1,7 @@
 // The check of a proposed order of a ticket table. It trusts nobody: the table is looked at first, and then each place of the
 // order by itself. RULES, Orders.
 #![tactic(auto)]
+
 ghost use Rattle.std.specs.Prelude.{◌≡◌};
 ghost use Rattle.orders.specs.Reply.{check_reply};
 ghost use Rattle.orders.specs.Order.{check_result};

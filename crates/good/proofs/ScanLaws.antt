@@ -1,6 +1,6 @@
 -- The test of a table, row by row: what is left of it from row i on. Assumes nothing.
-use mathlib.Core.Path.{◌≡◌, refl}
-use mathlib.Core.Bool.{true, false, not, ◌&&◌, and-false}
+use mathlib.Core.Path.{◌≡◌}
+use mathlib.Core.Bool.{true, false, not, and-false}
 use mathlib.Core.List.{List, ◌∷◌}
 use Prim.Native.Nat.{ℕ, ◌+◌, ◌-◌, ◌/◌, ◌%◌, ◌<◌, ◌≤◌}
 use native.Mathlib.Omega.{arith}
@@ -8,7 +8,7 @@ use lib.Dec.{eqb}
 use lib.ListN.{length}
 use borrow.Author.Tests.{eq-eqb, ne_eqb, le-leb, lt-leb}
 use Rattle.graph.specs.Lists.{any_of}
-use Rattle.orders.specs.Entries.{Entry, entry_at, entries_from, entries_in}
+use Rattle.orders.specs.Entries.{entry_at, entries_from, entries_in}
 use Rattle.orders.specs.Good.{clash, apartb, goodb}
 use Rattle.orders.proofs.WalkLaws.{rows_more, rows_end}
 use Rattle.good.specs.Scan.{rest_good}

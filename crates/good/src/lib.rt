@@ -1,5 +1,6 @@
 // Is a ticket table good? Its rows lie flat, nine entries each: the number, then eight tickets. RULES, Orders.
 #![tactic(auto)]
+
 ghost use Rattle.std.specs.Prelude.{◌≡◌, ◌+◌, ◌-◌, ◌/◌, ◌<◌, length};
 ghost use Rattle.graph.specs.Lists.{any_of};
 ghost use Rattle.orders.specs.Entries.{entry_at, entries_from};

@@ -1,5 +1,6 @@
 // The service's answers as lines of text, written into a lent buffer. Rests on `text` and on specs/Line.antt.
 #![tactic(auto)]
+
 ghost use Rattle.std.specs.Prelude.{◌≡◌, [], ◌∷◌, take};
 ghost use Rattle.endian.specs.Laid.{stored};
 ghost use Rattle.decimal.specs.Written.{written_count};

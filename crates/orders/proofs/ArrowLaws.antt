@@ -1,18 +1,18 @@
 -- The test of an arrow finds exactly the arrows, and the laws of graphs at rows of tickets. Assumes nothing.
 use mathlib.Core.Path.{◌≡◌, refl}
-use mathlib.Core.Bool.{Bool, true, false, ◌&&◌, false≢true, and-false}
-use mathlib.Core.List.{List, [], ◌∷◌, map}
+use mathlib.Core.Bool.{Bool, true, false, false≢true, and-false}
+use mathlib.Core.List.{List, [], ◌∷◌}
 use mathlib.Core.Logic.{◌↔◌, ◌⊎◌, inl, inr}
 use Prim.Native.Nat.{ℕ, zero, suc, ◌<◌}
 use native.Mathlib.Omega.{arith}
 use lib.Dec.{ltb, eqb}
 use borrow.Author.Tests.{ltb-true, lt-ltb, le-ltb, eqb-true, eq-eqb}
-use Rattle.graph.specs.Path.{Cycle, Holds}
+use Rattle.graph.specs.Path.{Cycle}
 use Rattle.graph.specs.Acyclic.{acyclic}
 use Rattle.graph.proofs.TestLaws.{either_of_or, both_of_and, or_of_left, or_of_right, and_of_both, true_not_false}
 use Rattle.graph.proofs.PathLaws.{cycle_of_weaker}
 use Rattle.graph.proofs.AcyclicLaws.{acyclic_iff}
-use Rattle.orders.specs.Arrow.{Tickets, ticket_at, Before, Arrow, any_site, beforeb, arrowb}
+use Rattle.orders.specs.Arrow.{Tickets, ticket_at, Arrow, any_site, beforeb, arrowb}
 use Rattle.orders.specs.Good.{sameb}
 
 -- a test of two tickets that fails where one of them is 0 passes at some site exactly if `any_site` says so

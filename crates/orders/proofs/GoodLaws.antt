@@ -1,6 +1,6 @@
 -- The test of a ticket table passes exactly the good ones. Assumes nothing.
 use mathlib.Core.Path.{◌≡◌, refl, sym, ap}
-use mathlib.Core.Bool.{Bool, true, false, not, ◌&&◌, ◌||◌}
+use mathlib.Core.Bool.{Bool, true, false, not, ◌&&◌}
 use mathlib.Core.List.Memᴰ
 use mathlib.Core.List.{List, [], ◌∷◌, map}
 use mathlib.Core.Logic.{◌⊎◌, inl, inr}
@@ -8,13 +8,13 @@ use Prim.Native.Nat.{ℕ, zero, suc, ◌<◌, ◌%◌}
 use native.Mathlib.Omega.{arith}
 use lib.Dec.{eqb, leb}
 use lib.ListN.{length}
-use borrow.Author.Tests.{eqb-true, eqb-false, eq-eqb, leb-true, le-leb}
-use Rattle.graph.specs.Lists.{◌∈◌, At, Once, any_of}
+use borrow.Author.Tests.{eqb-true, eq-eqb, leb-true, le-leb}
+use Rattle.graph.specs.Lists.{◌∈◌, At, any_of}
 use Rattle.graph.proofs.TestLaws.{true_or_false, true_not_false, false_of_not, not_of_false, false_of_not_true, both_of_and, and_of_both, either_of_or, or_of_left, or_of_right}
 use Rattle.graph.proofs.MemberLaws.{any_of_member, member_of_any}
 use Rattle.graph.proofs.PlaceLaws.{at_of_member, member_of_at}
 use Rattle.graph.proofs.CountLaws.{once_of_cons, once_of_tail, new_of_once}
-use Rattle.orders.specs.Arrow.{Tickets, ticket_at, any_site}
+use Rattle.orders.specs.Arrow.{ticket_at, any_site}
 use Rattle.orders.specs.Entries.{Entry, number_of, entries_in}
 use Rattle.orders.specs.Good.{Apart, GoodRows, Clash, sameb, clash, apartb, goodb}
 use Rattle.orders.proofs.ArrowLaws.{any_site→site, site→any_site, sameb→same, same→sameb}

@@ -2,6 +2,7 @@
 
 // What the check answers: 13, yes or no (`check_reply` of specs/Reply.antt).
 #![tactic(auto)]
+
 #[derive(Drop)]
 pub enum CheckAnswer {
     Bad,

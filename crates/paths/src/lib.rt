@@ -2,6 +2,7 @@
 // RULES, Graph and decision; Forgetting. Inside, paths are found by Warshall's steps over a square of yes-no entries; the
 // contracts speak of paths of arrows alone (specs/Paths.antt), so that no caller depends on the square.
 #![tactic(auto)]
+
 ghost use Rattle.paths.specs.Paths.{TellsCycle, TellsReached};
 
 use closure::{joined, paths};

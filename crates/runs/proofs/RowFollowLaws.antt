@@ -57,7 +57,8 @@ module _ (r : Run) (c : Call) where
     begun = inl ((e, f), λ s m. (new_part (after r) sites s).1 m);
     tickets = λ s k h. (
       λ p. absurd (omega (arith, p, empty s)),
-      λ y. absurd (elim y [ inl z ↦ never (cc) | inr z ↦ omega (arith, low _ (br Report.Ticket _ s (happened_map (λ t d b x. report_of_ticket t d b _ s k x) r z))) ]),
+      λ y. absurd (elim y [ inl z ↦ never (cc) | inr z ↦ (let m = (after r).last.0 + 1 in
+          omega (arith, low m (br Report.Ticket m s (happened_map {P = TakesTicket m s k} {Q = Reports Report.Ticket m s} (λ t d b x. report_of_ticket t d b m s k x) r z)))) ]),
     );
     reports = λ s p. (
       λ g. absurd (true_not_false g (ap (given p) (fresh s) ∙ given_first p)),

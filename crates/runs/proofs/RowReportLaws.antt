@@ -56,7 +56,7 @@ module _ (r : Run) (c : Call) (q : Row) (v : RowFollows r q) where
 
     begun : Happened (BeginsAt w) (call r c)
     unfolding Happened reported
-    begun = inr (happened_map (λ t d b x. (x.0, λ y m. bases y ∙ x.1 y m)) r v.begun)
+    begun = inr (happened_map {P = BeginsAt q} {Q = BeginsAt w} (λ t d b x. (x.0, λ y m. bases y ∙ x.1 y m)) r v.begun)
 
     unlisted : (x : ℕ) → ¬ Has w x → part_at w x ≡ no_part
     unfolding reported

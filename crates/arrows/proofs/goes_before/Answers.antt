@@ -1,10 +1,8 @@
 -- `arrows::goes_before` meets its contract: after s sites it has found what the first s tickets of both rows show.
 -- Assumes nothing.
-use mathlib.Core.Path.{◌≡◌, refl, sym, ◌∙◌}
-use Prim.Native.Nat.{◌≤◌, ◌-◌, ◌/◌}
-use lib.ListN.{length, take}
+use mathlib.Core.Path.{sym, ◌∙◌}
 use borrow.Author.Rules.{rules}
-use Rattle.orders.specs.Arrow.{beforeb, arrowb}
+use Rattle.orders.specs.Arrow.{beforeb}
 use Rattle.orders.specs.Entries.{entry_at}
 use Rattle.orders.proofs.WalkLaws.{arrow_more, any_site_all}
 use Rattle.arrows.proofs.PastLaws.{no_arrow_of_past, no_arrow_to_past}
@@ -17,7 +15,7 @@ pub returns-then-n-b : goal.returns-then-n-b
 returns-then-n-b c = let a = c.args in record { answer = sym (no_arrow_to_past a.rows.now a.a a.b c.if-n-b.true) }
 
 pub loop-s-preserved : goal.loop-s-preserved
-loop-s-preserved c =     let a = c.args in
+loop-s-preserved c = let a = c.args in
     let row = entry_at a.rows.now in (
       search rules,
       c.loop-s.invariant.1,
@@ -26,4 +24,4 @@ loop-s-preserved c =     let a = c.args in
     )
 
 pub returns : goal.returns
-returns c =     let a = c.args in record { answer = c.loop-s.invariant.3 ∙ any_site_all beforeb a.rows.now a.a a.b c.loop-s.s c.loop-s-test.false }
+returns c = let a = c.args in record { answer = c.loop-s.invariant.3 ∙ any_site_all beforeb a.rows.now a.a a.b c.loop-s.s c.loop-s-test.false }

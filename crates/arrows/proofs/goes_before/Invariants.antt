@@ -1,15 +1,12 @@
-use mathlib.Core.Path.{◌≡◌, refl, sym, ◌∙◌}
+use mathlib.Core.Path.{◌≡◌}
 use Prim.Native.Nat.{◌≤◌, ◌-◌, ◌/◌}
 use lib.ListN.{length, take}
-use borrow.Author.Rules.{rules}
-use Rattle.orders.specs.Arrow.{beforeb, arrowb}
+use Rattle.orders.specs.Arrow.{arrowb}
 use Rattle.orders.specs.Entries.{entry_at}
-use Rattle.orders.proofs.WalkLaws.{arrow_more, any_site_all}
-use Rattle.arrows.proofs.PastLaws.{no_arrow_of_past, no_arrow_to_past}
 use Rattle.arrows.proofs.goes_before.Given as goal
 
 abbrev pub invariant-loop-s : goal.invariant-loop-s
-invariant-loop-s l =     (l.s ≤ 8) × (l.a ≤ length l.rows / 9) × (l.b ≤ length l.rows / 9) × (l.found ≡ arrowb (take l.s (entry_at l.rows l.a).tickets) (take l.s (entry_at l.rows l.b).tickets))
+invariant-loop-s l = (l.s ≤ 8) × (l.a ≤ length l.rows / 9) × (l.b ≤ length l.rows / 9) × (l.found ≡ arrowb (take l.s (entry_at l.rows l.a).tickets) (take l.s (entry_at l.rows l.b).tickets))
 
 abbrev pub decreases-loop-s : goal.decreases-loop-s
 decreases-loop-s l = 8 - l.s

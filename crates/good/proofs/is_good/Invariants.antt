@@ -1,11 +1,8 @@
-use mathlib.Core.Path.{◌≡◌, refl, sym, ◌∙◌}
+use mathlib.Core.Path.{◌≡◌}
 use Prim.Native.Nat.{◌≤◌, ◌-◌, ◌/◌}
-use native.Mathlib.Omega.{arith}
 use lib.ListN.{length}
-use borrow.Author.Rules.{rules}
 use Rattle.orders.specs.Good.{goodb}
 use Rattle.good.specs.Scan.{rest_good}
-use Rattle.good.proofs.ScanLaws.{bad_of_part, bad_of_many, good_of_rest, rest_end, rest_of_unnamed, rest_of_clash, rest_of_more}
 use Rattle.good.proofs.is_good.Given as goal
 
 abbrev pub invariant-loop-i : goal.invariant-loop-i

@@ -1,12 +1,6 @@
 -- `paths::has_cycle` meets its contract: the diagonal has a yes, or was passed without one. Assumes nothing.
-use mathlib.Core.Path.{◌≡◌}
-use mathlib.Core.Bool.{false}
-use Prim.Native.Nat.{ℕ, ◌≤◌, ◌<◌, ◌-◌}
 use native.Mathlib.Omega.{arith}
-use borrow.Author.Count.{below_more}
-use borrow.Author.Rules.{rules}
-use Rattle.paths.specs.Entries.{entry}
-use Rattle.paths.proofs.CycleLaws.{cycle_of_yes, no_cycle_of_no}
+use Rattle.paths.proofs.CycleLaws.{no_cycle_of_no}
 use Rattle.paths.proofs.has_cycle.Goals as goal
 
 pub returns : goal.returns

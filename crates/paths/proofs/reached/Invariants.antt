@@ -1,8 +1,5 @@
-use mathlib.Core.Logic.{⊎_elim}
 use Prim.Native.Nat.{◌≤◌, ◌-◌}
-use borrow.Author.Rules.{rules}
 use Rattle.paths.specs.Entries.{FoundBelow}
-use Rattle.paths.proofs.FoundLaws.{found_none, found_more, found_skip, reached_of_all}
 use Rattle.paths.proofs.reached.Given as goal
 
 abbrev pub invariant-loop-i : goal.invariant-loop-i

@@ -1,18 +1,17 @@
 -- `arrows::preds::facing` meets its contract: after s sites it has found what the first s tickets show, both ways. Assumes nothing.
-use mathlib.Core.Path.{◌≡◌, refl}
-use Prim.Native.Nat.{◌-◌, ◌/◌, ◌<◌, ◌≤◌}
+use mathlib.Core.Path.{◌≡◌}
+use Prim.Native.Nat.{◌/◌}
 use native.Mathlib.Omega.{arith}
-use lib.ListN.{length, take}
+use lib.ListN.{length}
 use lib.Seq.{take_all}
 use borrow.Author.Rules.{rules}
-use borrow.Author.Tests.{lt-ltb, le-ltb}
-use Rattle.orders.specs.Arrow.{arrowb}
+use borrow.Author.Tests.{lt-ltb}
 use Rattle.orders.specs.Entries.{entry_at}
 use Rattle.orders.proofs.WalkLaws.{arrow_more, take_row}
 use Rattle.arrows.proofs.preds.facing.Goals as goal
 
 pub loop-s-preserved : goal.loop-s-preserved
-loop-s-preserved c =     let v = c.loop-s.invariant in
+loop-s-preserved c = let v = c.loop-s.invariant in
     let a = c.args in
     let ts = (entry_at a.rows.now a.j).tickets in (
       v.0,
@@ -22,7 +21,7 @@ loop-s-preserved c =     let v = c.loop-s.invariant in
     )
 
 pub returns : goal.returns
-returns c =     let v = c.loop-s.invariant in
+returns c = let v = c.loop-s.invariant in
     let a = c.args in
     let n : length a.own ≡ 8 = search rules in
     let whole = lt-ltb a.j (length a.rows.now / 9) v.0 in

@@ -1,13 +1,8 @@
-use mathlib.Core.Path.{◌≡◌, ◌∙◌}
-use Prim.Native.Nat.{◌-◌, ◌/◌, ◌%◌, ◌<◌, ◌≤◌}
-use native.Mathlib.Nat.{mod-eq_of_lt}
-use native.Mathlib.Omega.{arith}
+use mathlib.Core.Path.{◌≡◌}
+use Prim.Native.Nat.{◌-◌, ◌/◌, ◌<◌, ◌≤◌}
 use lib.ListN.{length}
-use borrow.Author.Rules.{rules}
-use borrow.Author.Tests.{lt-ltb}
 use Rattle.orders.specs.Entries.{entry_at}
-use Rattle.arrows.specs.Preds.{leads, Joining}
-use Rattle.arrows.proofs.PredsLaws.{joining_none, joining_more, joined_more}
+use Rattle.arrows.specs.Preds.{Joining}
 use Rattle.arrows.proofs.preds.join.Given as goal
 
 abbrev pub invariant-loop-j : goal.invariant-loop-j

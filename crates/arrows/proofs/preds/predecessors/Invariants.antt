@@ -1,11 +1,6 @@
 use mathlib.Core.Path.{◌≡◌}
-use Prim.Native.Nat.{◌-◌, ◌/◌, ◌<◌, ◌≤◌}
-use native.Mathlib.Nat.{min-le_left, min-le_right}
-use native.Mathlib.Omega.{arith}
-use lib.ListN.{length}
-use borrow.Author.Rules.{rules}
+use Prim.Native.Nat.{◌-◌, ◌≤◌}
 use Rattle.arrows.specs.Preds.{worded, Joined}
-use Rattle.arrows.proofs.PredsLaws.{joined_none, preds_of_joined}
 use Rattle.arrows.proofs.preds.predecessors.Given as goal
 
 abbrev pub invariant-loop-i : goal.invariant-loop-i

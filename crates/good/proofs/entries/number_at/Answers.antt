@@ -2,15 +2,14 @@
 use mathlib.Core.Path.{sym, ◌∙◌}
 use native.Mathlib.Omega.{arith}
 use lib.ListN.{get_or-eq_default}
-use borrow.Author.Rules.{rules}
 use Rattle.orders.proofs.EntriesLaws.{number_entry_at}
 use Rattle.good.proofs.entries.number_at.Goals as goal
 
 pub returns-then-rows-i : goal.returns-then-rows-i
-returns-then-rows-i c =     let a = c.args in record { answer = sym (number_entry_at a.rows.now a.i ∙ get_or-eq_default a.rows.now 0 (omega arith)) }
+returns-then-rows-i c = let a = c.args in record { answer = sym (number_entry_at a.rows.now a.i ∙ get_or-eq_default a.rows.now 0 (omega arith)) }
 
 pub returns-then-k-rows : goal.returns-then-k-rows
 returns-then-k-rows c = let a = c.args in record { answer = sym (number_entry_at a.rows.now a.i) }
 
 pub returns-else-k-rows : goal.returns-else-k-rows
-returns-else-k-rows c =     let a = c.args in record { answer = sym (number_entry_at a.rows.now a.i ∙ get_or-eq_default a.rows.now 0 c.if-k-rows.false) }
+returns-else-k-rows c = let a = c.args in record { answer = sym (number_entry_at a.rows.now a.i ∙ get_or-eq_default a.rows.now 0 c.if-k-rows.false) }

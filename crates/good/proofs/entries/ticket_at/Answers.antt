@@ -1,7 +1,6 @@
 -- `good::entries::ticket_at` meets its contract. Assumes nothing.
 use mathlib.Core.Path.{sym}
 use native.Mathlib.Omega.{arith}
-use borrow.Author.Rules.{rules}
 use Rattle.orders.proofs.EntriesLaws.{ticket_entry_at}
 use Rattle.good.proofs.entries.ticket_at.Goals as goal
 

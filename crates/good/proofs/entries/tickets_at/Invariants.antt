@@ -1,14 +1,8 @@
-use mathlib.Core.Path.{◌≡◌, refl, sym, ◌∙◌}
+use mathlib.Core.Path.{◌≡◌}
 use Prim.Native.Nat.{ℕ, ◌-◌, ◌/◌, ◌<◌, ◌≤◌}
-use native.Mathlib.Omega.{arith}
-use lib.ListN.{length, get_or, length-set}
-use lib.Seq.{get_or-set_same, get_or-set_other, ext_get_or}
-use borrow.Author.Count.{below_more}
-use borrow.Author.Rules.{rules}
-use borrow.Author.Tests.{lt-ltb, le-ltb}
+use lib.ListN.{length, get_or}
 use Rattle.orders.specs.Arrow.{ticket_at}
 use Rattle.orders.specs.Entries.{entry_at}
-use Rattle.orders.proofs.EntriesLaws.{length_tickets}
 use Rattle.good.proofs.entries.tickets_at.Given as goal
 
 abbrev pub invariant-loop-s : goal.invariant-loop-s

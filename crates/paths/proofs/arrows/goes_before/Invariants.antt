@@ -1,11 +1,8 @@
-use mathlib.Core.Path.{◌≡◌, refl, ◌∙◌}
+use mathlib.Core.Path.{◌≡◌}
 use Prim.Native.Nat.{◌≤◌, ◌-◌}
 use lib.ListN.{take}
-use borrow.Author.Rules.{rules}
 use Rattle.orders.specs.Arrow.{arrowb}
-use Rattle.orders.proofs.WalkLaws.{arrow_more}
 use Rattle.paths.specs.Paths.{ticket_row}
-use Rattle.paths.proofs.SiteLaws.{arrow_of_all}
 use Rattle.paths.proofs.arrows.goes_before.Given as goal
 
 abbrev pub invariant-loop-s : goal.invariant-loop-s

@@ -1,11 +1,8 @@
 -- `paths::closure::joined` meets its contract. Assumes nothing.
-use mathlib.Core.Path.{◌≡◌, refl}
-use mathlib.Core.Bool.{false, ◌||◌}
-use Prim.Native.Nat.{◌-◌}
-use lib.ListN.{get_or, get_or-replicate}
-use borrow.Author.Rules.{rules}
-use Rattle.paths.specs.Passed.{Passed}
-use Rattle.paths.proofs.PassedLaws.{passed_none, passed_set, done_of_all}
+use mathlib.Core.Path.{refl}
+use mathlib.Core.Bool.{false}
+use lib.ListN.{get_or-replicate}
+use Rattle.paths.proofs.PassedLaws.{passed_none}
 use Rattle.paths.proofs.closure.joined.Goals as goal
 
 pub loop-j-init : goal.loop-j-init

@@ -1,10 +1,8 @@
-use mathlib.Core.Path.{◌≡◌, refl}
+use mathlib.Core.Path.{◌≡◌}
 use mathlib.Core.Bool.{false, ◌||◌}
 use Prim.Native.Nat.{◌-◌}
-use lib.ListN.{get_or, get_or-replicate}
-use borrow.Author.Rules.{rules}
+use lib.ListN.{get_or}
 use Rattle.paths.specs.Passed.{Passed}
-use Rattle.paths.proofs.PassedLaws.{passed_none, passed_set, done_of_all}
 use Rattle.paths.proofs.closure.joined.Given as goal
 
 abbrev pub invariant-loop-j : goal.invariant-loop-j

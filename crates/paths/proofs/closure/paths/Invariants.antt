@@ -1,9 +1,5 @@
-use mathlib.Core.Logic.{⊎_elim}
-use Prim.Native.Nat.{◌≤◌, ◌<◌, ◌-◌}
-use native.Mathlib.Omega.{arith}
-use borrow.Author.Rules.{rules}
+use Prim.Native.Nat.{◌≤◌, ◌-◌}
 use Rattle.paths.specs.Entries.{After}
-use Rattle.paths.proofs.ClosureLaws.{after_none, after_step, after_skip, paths_of_all}
 use Rattle.paths.proofs.closure.paths.Given as goal
 
 abbrev pub invariant-loop-k : goal.invariant-loop-k

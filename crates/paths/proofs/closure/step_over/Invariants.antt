@@ -1,14 +1,9 @@
-use mathlib.Core.Path.{◌≡◌, refl}
+use mathlib.Core.Path.{◌≡◌}
 use mathlib.Core.List.{[]}
-use mathlib.Core.Logic.{⊎_elim}
 use Prim.Native.Nat.{◌-◌}
-use native.Mathlib.Omega.{arith}
 use lib.ListN.{get_or}
-use borrow.Author.Rules.{rules}
 use Rattle.paths.specs.Entries.{RowIs, over}
 use Rattle.paths.specs.Passed.{Passed}
-use Rattle.paths.proofs.PassedLaws.{passed_none, passed_kept, passed_set, done_of_all}
-use Rattle.paths.proofs.ClosureLaws.{over_of_yes, over_of_no}
 use Rattle.paths.proofs.closure.step_over.Given as goal
 
 abbrev pub invariant-loop-i : goal.invariant-loop-i

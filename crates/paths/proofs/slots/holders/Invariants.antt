@@ -1,11 +1,8 @@
-use mathlib.Core.Path.{◌≡◌, refl}
+use mathlib.Core.Path.{◌≡◌}
 use mathlib.Core.Bool.{false}
 use Prim.Native.Nat.{◌-◌}
-use lib.ListN.{get_or-replicate}
-use borrow.Author.Rules.{rules}
 use Rattle.paths.specs.Entries.{Blank}
 use Rattle.paths.specs.Passed.{Passed}
-use Rattle.paths.proofs.PassedLaws.{passed_none, passed_set, done_of_all}
 use Rattle.paths.proofs.slots.holders.Given as goal
 
 abbrev pub invariant-loop-i : goal.invariant-loop-i

@@ -1,11 +1,8 @@
 use mathlib.Core.Path.{◌≡◌}
 use mathlib.Core.Bool.{false}
 use Prim.Native.Nat.{ℕ, ◌≤◌, ◌<◌, ◌-◌}
-use native.Mathlib.Omega.{arith}
-use borrow.Author.Rules.{rules}
 use Rattle.orders.specs.Arrow.{ticket_at}
 use Rattle.paths.specs.Paths.{ticket_row}
-use Rattle.paths.proofs.SiteLaws.{blank_of_one_more, blank_of_all}
 use Rattle.paths.proofs.slots.holds_ticket.Given as goal
 
 abbrev pub invariant-loop-s : goal.invariant-loop-s

@@ -1,7 +1,6 @@
 -- `paths::slots::ticket_at` meets its contract. Assumes nothing.
 use mathlib.Core.Path.{sym}
 use native.Mathlib.Omega.{arith}
-use borrow.Author.Rules.{rules}
 use Rattle.paths.proofs.SlotLaws.{ticket_of_flat}
 use Rattle.paths.proofs.slots.ticket_at.Goals as goal
 
