@@ -1,6 +1,7 @@
 // Who keeps a committed transaction from being forgotten: a kept one that goes before it, or an older active one that holds it back.
 // RULES, Graph and decision; Forgetting.
 #![tactic(auto)]
+
 ghost use Rattle.std.specs.Prelude.{◌≡◌, ◌&&◌, leb};
 ghost use Rattle.orders.specs.Arrow.{beforeb};
 ghost use Rattle.method.specs.Records.{active, committed, goesb};

@@ -1,5 +1,5 @@
 -- The number that the C call answers, from the check's answer and from the two tests. RULES, The C call.
-use Rattle.std.specs.Prelude.{Bool, ◌&&◌, List, ℕ, ◌%◌, eqb, length}
+use Rattle.std.specs.Prelude.{◌&&◌, List, ℕ, ◌%◌, eqb, length}
 use Rattle.endian.specs.Bytes.{words}
 use Rattle.orders.specs.declared.CheckAnswer.{CheckAnswer}
 use Rattle.orders.specs.declared.CheckAnswer.TheVariants.{Bad, Yes, No}

@@ -1,6 +1,7 @@
 // The check of an order for programs in C, which hand both lists over as bytes; include/order_check.h declares it.
 // RULES, The C call.
 #![tactic(auto)]
+
 ghost use Rattle.std.specs.Prelude.{◌≡◌, false};
 ghost use Rattle.orders.specs.Good.{goodb};
 ghost use Rattle.orders.specs.Judged.{judged};

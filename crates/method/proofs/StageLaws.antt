@@ -16,7 +16,6 @@ use Rattle.method.specs.declared.Stage.{Stage}
 use Rattle.method.specs.declared.Report.{Report}
 use Rattle.method.specs.declared.Step.{Step}
 use Rattle.method.specs.Stages.{first_stage, step_of, given, report_no}
-use Rattle.method.proofs.RecordLaws.{never}
 
 -- all of them
 abbrev stages : List Stage

@@ -3,6 +3,7 @@
 // crate `table` shuts them.
 // How many transactions a table holds, and how many sites it can have. RULES, Limits.
 #![tactic(auto)]
+
 pub const SLOTS: usize = 32;
 
 pub const SITES: usize = 8;

@@ -1,5 +1,6 @@
 // The table before its opening, and the opening. RULES, Calls.
 #![tactic(auto)]
+
 ghost use Rattle.std.specs.Prelude.{◌≡◌, ◌<◌, ◌≤◌, length};
 ghost use Rattle.method.specs.Records.{closed as closedTable};
 ghost use Rattle.method.specs.Conditions.{bad_opening};

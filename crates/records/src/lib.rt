@@ -1,5 +1,6 @@
 // The records of a table: a slot's state, a free row, a call refused, a slot freed. RULES, The table.
 #![tactic(auto)]
+
 ghost use Rattle.std.specs.Prelude.{◌≡◌};
 ghost use Rattle.method.specs.Records.{is_free, is_active, is_committed, free_row, with_row};
 ghost use Rattle.method.specs.Effects.{answered};

@@ -1,5 +1,6 @@
 // Who else has a ticket: check 6 of a report. RULES, Refusals.
 #![tactic(auto)]
+
 ghost use Rattle.std.specs.Prelude.{◌≡◌};
 ghost use Rattle.method.specs.Records.{part_at};
 ghost use Rattle.method.specs.Conditions.{holds_other, taken};

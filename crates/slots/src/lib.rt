@@ -1,5 +1,6 @@
 // Where a number and a free slot are. 32 stands for no slot. RULES, The table.
 #![tactic(auto)]
+
 ghost use Rattle.std.specs.Prelude.{◌≡◌};
 ghost use Rattle.method.specs.Slots.{first_at, has_number, free_slot};
 ghost use Rattle.slots.specs.Gate.{gate_of};

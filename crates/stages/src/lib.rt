@@ -1,5 +1,6 @@
 // Stage against report: where a report leads a site of a transaction. RULES, The table.
 #![tactic(auto)]
+
 ghost use Rattle.std.specs.Prelude.{◌≡◌, ◌<◌};
 ghost use Rattle.method.specs.Stages.{step_of, stage_no, report_no};
 ghost use Rattle.stages.specs.Place.{place_of};

@@ -13,12 +13,12 @@ use kept::packed::Kept;
 use method::{Answer, Number, Ticket};
 use slots::Gate;
 
-#[derive(Drop)]
+#[derive(Clone, Copy)]
 pub struct Table {
     held: method::Table,
 }
 
-#[derive(Drop)]
+#[derive(Clone, Copy)]
 pub struct Answered {
     pub table: Table,
     pub answer: Answer,

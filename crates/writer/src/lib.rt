@@ -1,5 +1,6 @@
 // The writer of an order: at each place the smallest number that may stand there. RULES, Orders.
 #![tactic(auto)]
+
 ghost use Rattle.std.specs.Prelude.{◌≡◌, ◌+◌, ◌≤◌, leb, length, take};
 ghost use Rattle.endian.specs.Laid.{laid};
 ghost use Rattle.orders.specs.Reply.{write_reply};

@@ -1,14 +1,13 @@
 -- `blockers::goes_before` meets its contract: what is found from site 0 on is what is found from site s on. Assumes nothing.
 use mathlib.Core.Path.{◌≡◌, refl, sym, ◌∙◌}
-use mathlib.Core.Bool.{Bool}
-use Prim.Native.Nat.{ℕ, ◌≤◌, ◌-◌}
+use Prim.Native.Nat.{ℕ}
 use native.Mathlib.Omega.{arith}
-use lib.ListN.{length, drop}
+use lib.ListN.{length}
 use borrow.Author.Rules.{rules}
-use Rattle.orders.specs.Arrow.{any_site, beforeb, ticket_at}
+use Rattle.orders.specs.Arrow.{beforeb, ticket_at}
 use Rattle.method.specs.declared.Row.{Row}
-use Rattle.method.specs.Records.{tickets_of, goesb}
-use Rattle.method.proofs.SearchLaws.{site_hit, site_skip, site_end, unmapped}
+use Rattle.method.specs.Records.{tickets_of}
+use Rattle.method.proofs.SearchLaws.{site_hit, site_skip, unmapped}
 use Rattle.method.proofs.RowLaws.{ticket_part, length_tickets}
 use Rattle.blockers.proofs.goes_before.Goals.{After-is_before}
 use Rattle.blockers.proofs.goes_before.Goals as goal
@@ -28,7 +27,7 @@ module _ (c : After-is_before) where
   tested = rw (ticket_part a s, ticket_part b s) c.is_before.ensures.answer
 
 pub loop-s-init : goal.loop-s-init
-loop-s-init c =     let p : length c.args.a.parts ≡ 8 = search (rules, unmapped) in
+loop-s-init c = let p : length c.args.a.parts ≡ 8 = search (rules, unmapped) in
     let q : length c.args.b.parts ≡ 8 = search (rules, unmapped) in
     (search rules, refl, length_tickets c.args.a ∙ p, length_tickets c.args.b ∙ q)
 
@@ -36,9 +35,9 @@ pub returns-then-is_before : goal.returns-then-is_before
 returns-then-is_before c = record { answer = sym (c.loop-s.invariant.1 ∙ site_hit beforeb (tickets_of (a ((goal.at.returns-then-is_before c).After-is_before))) (tickets_of (b ((goal.at.returns-then-is_before c).After-is_before))) (s ((goal.at.returns-then-is_before c).After-is_before)) (omega arith) (omega arith) (sym (tested ((goal.at.returns-then-is_before c).After-is_before)) ∙ c.if-is_before.true)) }
 
 pub loop-s-preserved : goal.loop-s-preserved
-loop-s-preserved c =     (
-      search rules,
-      c.loop-s.invariant.1 ∙ site_skip beforeb (tickets_of (a ((goal.at.loop-s-preserved c).After-is_before))) (tickets_of (b ((goal.at.loop-s-preserved c).After-is_before))) (s ((goal.at.loop-s-preserved c).After-is_before)) (omega arith) (omega arith) (sym (tested ((goal.at.loop-s-preserved c).After-is_before)) ∙ c.if-is_before.false),
-      c.loop-s.invariant.2,
-      c.loop-s.invariant.3,
-    )
+loop-s-preserved c = (
+  search rules,
+  c.loop-s.invariant.1 ∙ site_skip beforeb (tickets_of (a ((goal.at.loop-s-preserved c).After-is_before))) (tickets_of (b ((goal.at.loop-s-preserved c).After-is_before))) (s ((goal.at.loop-s-preserved c).After-is_before)) (omega arith) (omega arith) (sym (tested ((goal.at.loop-s-preserved c).After-is_before)) ∙ c.if-is_before.false),
+  c.loop-s.invariant.2,
+  c.loop-s.invariant.3,
+)

@@ -1,14 +1,10 @@
-use mathlib.Core.Path.{◌≡◌, refl, sym, ◌∙◌}
+use mathlib.Core.Path.{◌≡◌}
 use mathlib.Core.Bool.{Bool}
 use Prim.Native.Nat.{ℕ, ◌≤◌, ◌-◌}
-use native.Mathlib.Omega.{arith}
 use lib.ListN.{length, drop}
-use borrow.Author.Rules.{rules}
-use Rattle.orders.specs.Arrow.{any_site, beforeb, ticket_at}
+use Rattle.orders.specs.Arrow.{any_site, beforeb}
 use Rattle.method.specs.declared.Row.{Row}
 use Rattle.method.specs.Records.{tickets_of, goesb}
-use Rattle.method.proofs.SearchLaws.{site_hit, site_skip, site_end, unmapped}
-use Rattle.method.proofs.RowLaws.{ticket_part, length_tickets}
 use Rattle.blockers.proofs.goes_before.Given as goal
 
 -- what sites s and later say

@@ -1,6 +1,4 @@
 -- `openings::opened` meets its contract. Assumes nothing.
-use native.Mathlib.Omega.{arith}
-use borrow.Author.Rules.{rules}
 use Rattle.method.specs.Effects.{opened}
 use Rattle.openings.proofs.opened.Goals as goal
 

@@ -1,11 +1,7 @@
-use mathlib.Core.Path.{◌≡◌, refl}
+use mathlib.Core.Path.{◌≡◌}
 use Prim.Native.Nat.{◌-◌, ◌≤◌}
-use native.Mathlib.Omega.{arith}
-use lib.ListN.{length, take, length-set}
-use lib.Seq.{take_all}
-use borrow.Author.Rules.{rules}
+use lib.ListN.{length, take}
 use Rattle.method.specs.Effects.{padded}
-use Rattle.openings.proofs.OpenLaws.{padded_set}
 use Rattle.openings.proofs.padded.Given as goal
 
 abbrev pub invariant-loop-i : goal.invariant-loop-i

@@ -1,16 +1,11 @@
-use mathlib.Core.Path.{◌≡◌, refl, sym, ◌∙◌}
+use mathlib.Core.Path.{◌≡◌}
 use mathlib.Core.Bool.{Bool}
 use Prim.Native.Nat.{◌≤◌, ◌-◌}
-use native.Mathlib.Omega.{arith}
 use lib.ListN.{length, drop}
-use borrow.Author.Rules.{rules}
 use Rattle.graph.specs.Lists.{any_of}
 use Rattle.method.specs.declared.Row.{Row}
-use Rattle.method.specs.Records.{past_end}
 use Rattle.method.specs.Conditions.{holds_other, taken}
 use Prim.Native.Nat.{ℕ}
-use Rattle.graph.proofs.SearchLaws.{any_hit, any_skip, any_end}
-use Rattle.method.proofs.SearchLaws.{unmapped}
 use Rattle.rivals.proofs.is_taken.Given as goal
 
 abbrev test : ℕ → ℕ → ℕ → Row → Bool

@@ -23,8 +23,8 @@ returns-then-t-eq0 c = record { answer = sym (rw (eq-eqb _ _ c.if-t-eq0.true)) }
 
 pub returns-then-slot-eq-SLOTS : goal.returns-then-slot-eq-SLOTS
 unfolding gate_of
-returns-then-slot-eq-SLOTS c =     let a = c.args in record { answer = sym (rw (ne_eqb _ _ c.if-t-eq0.false, unknown_of_end a.t (slots ((goal.at.returns-then-slot-eq-SLOTS c).After-first-slot)) a.n.0 (sym (found ((goal.at.returns-then-slot-eq-SLOTS c).After-first-slot)) ∙ c.if-slot-eq-SLOTS.true))) }
+returns-then-slot-eq-SLOTS c = let a = c.args in record { answer = sym (rw (ne_eqb _ _ c.if-t-eq0.false, unknown_of_end a.t (slots ((goal.at.returns-then-slot-eq-SLOTS c).After-first-slot)) a.n.0 (sym (found ((goal.at.returns-then-slot-eq-SLOTS c).After-first-slot)) ∙ c.if-slot-eq-SLOTS.true))) }
 
 pub returns : goal.returns
 unfolding gate_of
-returns c =     let a = c.args in record { answer = sym (rw (ne_eqb _ _ c.if-t-eq0.false, (known_of_slot a.t (slots ((goal.at.returns c).After-first-slot)) a.n.0 (λ e. c.if-slot-eq-SLOTS.false (found ((goal.at.returns c).After-first-slot) ∙ e))).0, found ((goal.at.returns c).After-first-slot))) }
+returns c = let a = c.args in record { answer = sym (rw (ne_eqb _ _ c.if-t-eq0.false, (known_of_slot a.t (slots ((goal.at.returns c).After-first-slot)) a.n.0 (λ e. c.if-slot-eq-SLOTS.false (found ((goal.at.returns c).After-first-slot) ∙ e))).0, found ((goal.at.returns c).After-first-slot))) }

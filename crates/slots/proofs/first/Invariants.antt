@@ -1,13 +1,8 @@
-use mathlib.Core.Path.{◌≡◌, sym, ◌∙◌}
+use mathlib.Core.Path.{◌≡◌}
 use Prim.Native.Nat.{◌≤◌, ◌-◌, ◌+◌}
-use native.Mathlib.Nat.{zero-add}
-use native.Mathlib.Omega.{arith}
 use lib.ListN.{length, drop}
-use borrow.Author.Rules.{rules}
-use Rattle.method.specs.Records.{past_end}
 use Rattle.method.specs.Slots.{first_at}
 use Rattle.slots.specs.Suiting.{suiting}
-use Rattle.method.proofs.SearchLaws.{first_hit, first_skip, first_end, unmapped}
 use Rattle.slots.proofs.first.Given as goal
 
 abbrev pub invariant-loop-i : goal.invariant-loop-i

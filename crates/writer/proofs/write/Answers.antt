@@ -4,8 +4,7 @@ use mathlib.Core.Bool.{true}
 use Prim.Native.Nat.{◌+◌, ◌/◌, ◌≤◌}
 use native.Mathlib.Omega.{arith}
 use lib.ListN.{length}
-use borrow.Author.Rules.{rules}
-use borrow.Author.Tests.{not-true, not-false, leb-true, leb-false}
+use borrow.Author.Tests.{leb-true, leb-false}
 use Rattle.endian.proofs.PartLaws.{part_is, part_put, laid_of_part}
 use Rattle.orders.specs.Good.{goodb}
 use Rattle.orders.proofs.GoodLaws.{goodb→good}
@@ -22,20 +21,20 @@ room c =
     leb-true _ _ (sym c.has_room-room.ensures.answer ∙ c.if-not-room.false)
 
 pub returns-then-not-good : goal.returns-then-not-good
-returns-then-not-good c =     let a = c.args in let r = leaves_bad a.rows.now a.place a.out.now (sym c.is_good-good.ensures.answer ∙ c.if-not-good.true) in record { answer = r.0; buffer = r.1 }
+returns-then-not-good c = let a = c.args in let r = leaves_bad a.rows.now a.place a.out.now (sym c.is_good-good.ensures.answer ∙ c.if-not-good.true) in record { answer = r.0; buffer = r.1 }
 
 pub pick-p-requires : goal.pick-p-requires
 pick-p-requires c = goodb→good _ (good ((goal.at.pick-p-requires c).Else-not-good))
 
 pub returns-then-not-room : goal.returns-then-not-room
-returns-then-not-room c =     let a = c.args in
+returns-then-not-room c = let a = c.args in
     let n = length a.rows.now / 9 in let r = leaves_no_room a.rows.now a.place a.out.now (good ((goal.at.returns-then-not-room c).Else-not-good)) (leb-false (a.place + n) (length a.out.now) (sym c.has_room-room.ensures.answer ∙ c.if-not-room.true)) in record { answer = r.0; buffer = r.1 }
 
 pub returns-then-not-full : goal.returns-then-not-full
-returns-then-not-full c =     let a = c.args in let r = leaves_short a.rows.now a.place a.out.now (good ((goal.at.returns-then-not-full c).Else-not-good)) (room ((goal.at.returns-then-not-full c).Else-not-room)) _ _ c.pick-p.ensures.answer c.if-not-full.true in record { answer = r.0; buffer = r.1 }
+returns-then-not-full c = let a = c.args in let r = leaves_short a.rows.now a.place a.out.now (good ((goal.at.returns-then-not-full c).Else-not-good)) (room ((goal.at.returns-then-not-full c).Else-not-room)) _ _ c.pick-p.ensures.answer c.if-not-full.true in record { answer = r.0; buffer = r.1 }
 
 pub returns : goal.returns
-returns c =     let a = c.args in
+returns c = let a = c.args in
     let l = a.out.now in
     let p = a.place in
     let h : p ≤ length l = omega (arith, room ((goal.at.returns c).Else-not-room)) in

@@ -1,16 +1,14 @@
 -- `writer::picks::next_row` meets its contract: after each turn it has the least of the first i rows. Assumes nothing.
 use mathlib.Core.Path.{◌≡◌, refl, sym, ◌∙◌}
-use Prim.Native.Nat.{◌+◌, ◌-◌, ◌/◌, ◌^◌, ◌<◌, ◌≤◌}
+use Prim.Native.Nat.{◌+◌, ◌/◌, ◌<◌}
 use native.Mathlib.Omega.{arith}
-use lib.Count.{count_trailing_zeros, trailing_le}
+use lib.Count.{count_trailing_zeros}
 use lib.ListN.{length}
 use native.Mathlib.Nat.{div-one}
 use borrow.Author.Rules.{rules}
 use Rattle.words.specs.Word.{others, Lowest}
 use Rattle.words.proofs.WordLaws.{has_zero, lowest}
-use Rattle.arrows.specs.Preds.{preds_of}
 use Rattle.arrows.specs.Placed.{may_stand}
-use Rattle.writer.specs.Next.{number_at, least_below}
 use Rattle.writer.proofs.BelowLaws.{least_below_none}
 use Rattle.writer.proofs.NextLaws.{rest_lt, all_skipped, least_more, may_of_lowest, rest_more}
 use Rattle.writer.proofs.picks.next_row.Goals.{At-loop-rest}
@@ -24,16 +22,16 @@ at-lowest c n =
     lowest 32 c.loop-rest.rest n (rest_lt a.rows.now v.1 a.placed v.3 c.loop-rest.i c.loop-rest.rest v.5)
 
 pub loop-rest-init : goal.loop-rest-init
-loop-rest-init c =     let a = c.args in
+loop-rest-init c = let a = c.args in
     (refl, c.requires.0, c.requires.1, search rules, search rules, sym (div-one (others a.placed)), sym (least_below_none _ _ _))
 
 pub returns-then-n-j : goal.returns-then-n-j
-returns-then-n-j c =     let v = c.loop-rest.invariant in
+returns-then-n-j c = let v = c.loop-rest.invariant in
     let a = c.args in
     let low = at-lowest ((goal.at.returns-then-n-j c).At-loop-rest) c.loop-rest-test.true in record { answer = v.6 ∙ all_skipped a.rows.now v.1 a.placed v.3 c.loop-rest.i c.loop-rest.rest v.5 (count_trailing_zeros 32 c.loop-rest.rest) low.1.below (omega arith) (omega arith) }
 
 pub loop-rest-preserved : goal.loop-rest-preserved
-loop-rest-preserved c =     let v = c.loop-rest.invariant in
+loop-rest-preserved c = let v = c.loop-rest.invariant in
     let a = c.args in
     let flat = a.rows.now in
     let i = c.loop-rest.i in
@@ -52,5 +50,5 @@ loop-rest-preserved c =     let v = c.loop-rest.invariant in
     )
 
 pub returns : goal.returns
-returns c =     let v = c.loop-rest.invariant in
+returns c = let v = c.loop-rest.invariant in
     let a = c.args in record { answer = v.6 ∙ all_skipped a.rows.now v.1 a.placed v.3 c.loop-rest.i c.loop-rest.rest v.5 32 (λ k h. rw c.loop-rest-test.false (has_zero k)) (omega arith) (omega arith) }

@@ -1,15 +1,13 @@
 -- `writer::picks::pick` meets its contract: after k turns k numbers of the order are picked. Assumes nothing.
 use mathlib.Core.Path.{◌≡◌, refl}
-use Prim.Native.Nat.{◌-◌, ◌/◌, ◌%◌, ◌≤◌}
+use Prim.Native.Nat.{◌%◌}
 use native.Mathlib.Nat.{mod-eq_of_lt}
 use native.Mathlib.Omega.{arith}
-use lib.ListN.{length, take, length-set}
+use lib.ListN.{take, length-set}
 use borrow.Author.Rules.{rules}
 use Rattle.graph.specs.Order.{greedy}
 use Rattle.orders.specs.Entries.{number_of, entry_arrowb, entries_in}
-use Rattle.orders.specs.Good.{GoodRows}
-use Rattle.arrows.specs.Preds.{preds_of}
-use Rattle.writer.specs.Picks.{Placing, PickedOrder}
+use Rattle.writer.specs.Picks.{PickedOrder}
 use Rattle.writer.proofs.PlacingLaws.{placing_none, placing_more, order_of_stuck, order_of_all}
 use Rattle.writer.proofs.picks.pick.Goals.{At-loop-k}
 use Rattle.writer.proofs.picks.pick.Goals as goal
@@ -23,10 +21,10 @@ pub loop-k-init : goal.loop-k-init
 loop-k-init c = let g = c.requires in (refl, search rules, refl, c.predecessors-preds.ensures.answer, g, placing_none c.args.rows.now _)
 
 pub returns-then-n-j : goal.returns-then-n-j
-returns-then-n-j c =     let v = c.loop-k.invariant in record { answer = picked ((goal.at.returns-then-n-j c).At-loop-k) (order_of_stuck c.args.rows.now c.loop-k.numbers c.loop-k.placed c.loop-k.k v.5 c.next_row-j.result c.next_row-j.ensures.answer c.if-n-j.true) }
+returns-then-n-j c = let v = c.loop-k.invariant in record { answer = picked ((goal.at.returns-then-n-j c).At-loop-k) (order_of_stuck c.args.rows.now c.loop-k.numbers c.loop-k.placed c.loop-k.k v.5 c.next_row-j.result c.next_row-j.ensures.answer c.if-n-j.true) }
 
 pub loop-k-preserved : goal.loop-k-preserved
-loop-k-preserved c =     let next = c.next_row-j in
+loop-k-preserved c = let next = c.next_row-j in
     let v = c.loop-k.invariant in
     let g = v.4 in
     let small : next.result % 32 ≡ next.result = mod-eq_of_lt (omega (arith, g.few)) in
