@@ -6,7 +6,7 @@ use Prim.Native.Nat.{ℕ, ◌+◌, ◌*◌, ◌<◌, ◌≤◌}
 use native.Mathlib.Nat.{add-zero, le_of_lt}
 use native.Mathlib.Numerals.{add-one}
 use native.Mathlib.Omega.{arith}
-use lib.ListN.{length, length-append, length-map, length-replicate, set, take, drop}
+use lib.ListN.{length, length-append, length-map, set, take}
 use lib.Seq.{paste, set_split, length-take-le}
 use Rattle.endian.specs.Laid.{laid}
 use Rattle.endian.proofs.LaidLaws.{laid_of_laid, laid_of_paste}

@@ -1,6 +1,7 @@
 // The two walks of a decision over a transaction's sites: are all of them prepared, and where does its commit raise the highest
 // tickets? RULES, The table.
 #![tactic(auto)]
+
 ghost use Rattle.std.specs.Prelude.{◌≡◌, not, max, length};
 ghost use Rattle.graph.specs.Lists.{keep};
 ghost use Rattle.sites.specs.Sites.{sites_of};

@@ -1,5 +1,6 @@
 // Sweep: every kept row goes that no path of arrows reaches from a row that is held back. RULES, Forgetting.
 #![tactic(auto)]
+
 ghost use Rattle.std.specs.Prelude.{◌≡◌, cond, length};
 ghost use Rattle.method.specs.Records.{free_row};
 ghost use Rattle.method.specs.Calls.Call.{sweep as sweepCall};

@@ -1,6 +1,6 @@
 -- `parts::prepared_sites` meets its contract: those counted and those among the sites that are left make up all. Assumes nothing.
 use mathlib.Core.Path.{◌≡◌}
-use Prim.Native.Nat.{suc, ◌+◌, ◌-◌, ◌<◌, ◌≤◌}
+use Prim.Native.Nat.{suc, ◌+◌, ◌-◌}
 use native.Mathlib.Omega.{arith}
 use lib.Bits.{bit_and}
 use lib.Count.{count_trailing_zeros}
@@ -22,7 +22,7 @@ pub loop-left-init : goal.loop-left-init
 loop-left-init c = (search rules, omega arith, omega (arith, used_le c.args.row.sites))
 
 pub loop-left-preserved : goal.loop-left-preserved
-loop-left-preserved c =     let l = c.loop-left in
+loop-left-preserved c = let l = c.loop-left in
     let r = c.args.row in
     let a = at ((goal.at.loop-left-preserved c).In-loop-left) in
     let s = count_trailing_zeros 8 l.left in
@@ -32,4 +32,4 @@ loop-left-preserved c =     let l = c.loop-left in
     (omega (arith, a.falls), omega (arith, e, l.invariant.1, c.counts-n.ensures.answer), omega (arith, n, l.invariant.2, c.counts-n.ensures.answer, counted_le (part_at r s).stage))
 
 pub returns : goal.returns
-returns c =     let e : prepared c.args.row (sites_of c.loop-left.left) ≡ 0 = rw (c.loop-left-test.false, sites_zero) in record { answer = omega (arith, c.loop-left.invariant.1, e) }
+returns c = let e : prepared c.args.row (sites_of c.loop-left.left) ≡ 0 = rw (c.loop-left-test.false, sites_zero) in record { answer = omega (arith, c.loop-left.invariant.1, e) }

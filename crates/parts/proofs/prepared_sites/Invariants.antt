@@ -1,16 +1,8 @@
 use mathlib.Core.Path.{◌≡◌}
-use Prim.Native.Nat.{suc, ◌+◌, ◌-◌, ◌<◌, ◌≤◌}
-use native.Mathlib.Omega.{arith}
-use lib.Bits.{bit_and}
-use lib.Count.{count_trailing_zeros}
+use Prim.Native.Nat.{◌+◌, ◌<◌, ◌≤◌}
 use lib.ListN.{length}
-use borrow.Author.Rules.{rules}
-use Rattle.sites.specs.Sites.{sites_of, Turn}
-use Rattle.sites.proofs.SitesLaws.{used_le}
-use Rattle.sites.proofs.ByteLaws.{turn, sites_zero}
-use Rattle.method.specs.Records.{part_at}
-use Rattle.parts.specs.Counted.{counted}
-use Rattle.parts.proofs.PreparedLaws.{prepared, counted_le, prepared_more}
+use Rattle.sites.specs.Sites.{sites_of}
+use Rattle.parts.proofs.PreparedLaws.{prepared}
 use Rattle.parts.proofs.prepared_sites.Given as goal
 
 abbrev pub invariant-loop-left : goal.invariant-loop-left

@@ -1,12 +1,8 @@
-use mathlib.Core.Path.{◌≡◌, refl, sym, ◌∙◌}
+use mathlib.Core.Path.{◌≡◌}
 use Prim.Native.Nat.{◌<◌}
-use native.Mathlib.Omega.{arith}
-use lib.ListN.{length, length-set}
-use borrow.Author.Rules.{rules}
-use Rattle.sites.specs.Sites.{sites_of, Turn}
-use Rattle.sites.proofs.ByteLaws.{turn, sites_zero}
+use lib.ListN.{length}
+use Rattle.sites.specs.Sites.{sites_of}
 use Rattle.method.specs.Effects.{raised}
-use Rattle.method.proofs.SearchLaws.{unmapped}
 use Rattle.parts.proofs.raised.Given as goal
 
 abbrev pub invariant-loop-left : goal.invariant-loop-left

@@ -1,20 +1,17 @@
 -- `sweeps::cleared` meets its contract: after i turns the first i rows are as they will be, and those that went are counted.
 -- Assumes nothing.
-use mathlib.Core.Path.{◌≡◌, refl}
 use mathlib.Core.Bool.{false}
-use Prim.Native.Nat.{◌-◌, ◌<◌, ◌≤◌}
+use Prim.Native.Nat.{◌<◌}
 use native.Mathlib.Omega.{arith}
-use lib.ListN.{length, get_or}
+use lib.ListN.{get_or}
 use borrow.Author.Rules.{rules}
-use Rattle.method.specs.Records.{past_end, row_at, with_rows}
-use Rattle.method.specs.Effects.{swept_row}
-use Rattle.method.proofs.SearchLaws.{unmapped}
-use Rattle.sweeps.specs.Marks.{goes, StayMarks}
-use Rattle.sweeps.proofs.SweepLaws.{replaced, replaced_by_mark, passing, counted_by_mark, goes_in, one_le, swept_all}
+use Rattle.method.specs.Records.{row_at}
+use Rattle.sweeps.specs.Marks.{goes}
+use Rattle.sweeps.proofs.SweepLaws.{replaced_by_mark, counted_by_mark, one_le, swept_all}
 use Rattle.sweeps.proofs.cleared.Goals as goal
 
 pub loop-i-preserved : goal.loop-i-preserved
-loop-i-preserved c =     let t = c.args.t in
+loop-i-preserved c = let t = c.args.t in
     let marks = c.args.stay in
     let i = c.loop-i.i in
     let h : i < 32 = omega arith in

@@ -1,12 +1,7 @@
-use mathlib.Core.Path.{◌≡◌, refl, sym, ◌∙◌}
+use mathlib.Core.Path.{◌≡◌}
 use mathlib.Core.Bool.{false, ◌&&◌}
-use mathlib.Core.Logic.{⊎_elim}
-use Prim.Native.Nat.{◌-◌, ◌<◌}
-use native.Mathlib.Omega.{arith}
-use lib.ListN.{get_or-replicate}
-use borrow.Author.Rules.{rules}
+use Prim.Native.Nat.{◌-◌}
 use Rattle.paths.specs.Passed.{Passed}
-use Rattle.paths.proofs.PassedLaws.{passed_none, passed_kept, passed_set, done_of_all}
 use Rattle.method.specs.Records.{committed, row_at}
 use Rattle.method.specs.Conditions.{held_back}
 use Rattle.sweeps.proofs.held.Given as goal

@@ -10,7 +10,7 @@ pub returns-then-t-eq0 : goal.returns-then-t-eq0
 returns-then-t-eq0 c = record { answer = c.refuse.ensures.answer ∙ sym (sweep_closed c.args.t c.if-t-eq0.true) }
 
 pub cleared-requires : goal.cleared-requires
-cleared-requires c =     let t = c.args.t in
+cleared-requires c = let t = c.args.t in
     let l : length t.rows ≡ 32 = search (rules, unmapped) in
     stay_marks t l c.tickets-flat.result c.tickets-flat.ensures.answer c.held-marks.result c.held-marks.ensures.answer c.reached-stay.result c.reached-stay.ensures.answer
 

@@ -1,11 +1,7 @@
 use mathlib.Core.Path.{◌≡◌}
 use Prim.Native.Nat.{◌-◌, ◌<◌, ◌≤◌}
-use native.Mathlib.Omega.{arith}
 use lib.ListN.{length}
-use borrow.Author.Rules.{rules}
-use Rattle.method.proofs.SearchLaws.{unmapped}
 use Rattle.kept.specs.Aligned.{RowLaid}
-use Rattle.kept.proofs.AlignedLaws.{laid_none, laid_more}
 use Rattle.kept.proofs.aligned.lay_tickets.Given as goal
 
 abbrev pub invariant-loop-s : goal.invariant-loop-s

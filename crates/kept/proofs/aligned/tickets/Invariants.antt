@@ -1,10 +1,5 @@
-use mathlib.Core.Path.{refl, sym}
-use mathlib.Core.Logic.{⊎_elim}
-use Prim.Native.Nat.{◌-◌, ◌<◌}
-use native.Mathlib.Omega.{arith}
-use borrow.Author.Rules.{rules}
+use Prim.Native.Nat.{◌-◌}
 use Rattle.kept.specs.Aligned.{AlignedBelow}
-use Rattle.kept.proofs.AlignedLaws.{zeros, aligned_none, aligned_laid, aligned_skip, aligned_all}
 use Rattle.kept.proofs.aligned.tickets.Given as goal
 
 abbrev pub invariant-loop-i : goal.invariant-loop-i

@@ -1,19 +1,17 @@
 -- `kept::lay_entries` meets its contract: after s turns the number and the first s tickets are laid down. Assumes nothing.
-use mathlib.Core.Path.{◌≡◌, refl, sym, ◌∙◌}
-use Prim.Native.Nat.{◌+◌, ◌-◌, ◌≤◌}
+use mathlib.Core.Path.{◌≡◌, ◌∙◌}
+use Prim.Native.Nat.{◌+◌}
 use native.Mathlib.Numerals.{add-one}
 use native.Mathlib.Omega.{arith}
-use lib.ListN.{length, set, length-set}
-use lib.Seq.{paste, paste-zero, paste-suc}
-use borrow.Author.Rules.{rules}
+use lib.ListN.{set, length-set}
+use lib.Seq.{paste-suc}
 use Rattle.method.specs.Records.{tickets_of}
 use Rattle.method.proofs.RowLaws.{ticket_part, length_tickets}
-use Rattle.method.proofs.SearchLaws.{unmapped}
 use Rattle.kept.proofs.PackedLaws.{laid_entries}
 use Rattle.kept.proofs.packed.lay_entries.Goals as goal
 
 pub loop-s-preserved : goal.loop-s-preserved
-loop-s-preserved c =     let a = c.args in
+loop-s-preserved c = let a = c.args in
     let s = c.loop-s.s in
     let i = c.loop-s.invariant in
     let m = set a.flat.now a.at a.row.number.0 in (
@@ -26,7 +24,7 @@ loop-s-preserved c =     let a = c.args in
     )
 
 pub returns : goal.returns
-returns c =     let a = c.args in
+returns c = let a = c.args in
     let e : c.loop-s.s ≡ 8 = omega arith in
     record {
       flat = rw e at c.loop-s.invariant.5 ∙ laid_entries a.flat.now a.at a.row (omega arith) c.loop-s.invariant.4;

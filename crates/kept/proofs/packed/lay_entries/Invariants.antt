@@ -1,18 +1,12 @@
-use mathlib.Core.Path.{◌≡◌, refl, sym, ◌∙◌}
+use mathlib.Core.Path.{◌≡◌}
 use Prim.Native.Nat.{◌+◌, ◌-◌, ◌≤◌}
-use native.Mathlib.Numerals.{add-one}
-use native.Mathlib.Omega.{arith}
-use lib.ListN.{length, set, length-set}
-use lib.Seq.{paste, paste-zero, paste-suc}
-use borrow.Author.Rules.{rules}
+use lib.ListN.{length}
+use lib.Seq.{paste}
 use Rattle.method.specs.Records.{tickets_of}
-use Rattle.method.proofs.RowLaws.{ticket_part, length_tickets}
-use Rattle.method.proofs.SearchLaws.{unmapped}
-use Rattle.kept.proofs.PackedLaws.{laid_entries}
 use Rattle.kept.proofs.packed.lay_entries.Given as goal
 
 abbrev pub invariant-loop-s : goal.invariant-loop-s
-invariant-loop-s l =     (l.s ≤ 8)
+invariant-loop-s l = (l.s ≤ 8)
     × (l.at + 9 ≤ 288)
     × (length l.initial.flat ≡ 288)
     × (length l.flat ≡ 288)
