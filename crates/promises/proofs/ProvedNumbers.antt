@@ -114,10 +114,10 @@ order_tells flat place out (WriteAnswer.Wrote k) after w = let h = w.wrote.0 (k,
 
 pub numbers : Numbers
 numbers = record {
-  body = λ b r w g. told _ (body_refusal r) (body_tells b r ((refused_exactly.bodies b r w g r).0 refl));
-  frame = λ l r g. told _ (frame_refusal r) (frame_tells l r (refused_exactly.frames l r g));
-  read = λ l r w g. told _ (read_refusal r) (read_tells l r (refused_exactly.reads l r w g));
-  message = λ b out place r after w g. told _ (write_refusal r) (message_tells b out place r (refused_exactly.writes b out place r after w g));
-  check = λ flat o r g. by_reply _ (check_reply r) (check_tells flat o r (order_check flat o r g));
-  order = λ flat place out r after g. by_reply _ (write_reply r) (order_tells flat place out r after (order_writer flat place out r after g));
+  body = λ b r w g. told ((10, NoBody b) ∷ []) (body_refusal r) (body_tells b r ((refused_exactly.bodies b r w g r).0 refl));
+  frame = λ l r g. told ((11, Bad l) ∷ []) (frame_refusal r) (frame_tells l r (refused_exactly.frames l r g));
+  read = λ l r w g. told ((11, Bad l) ∷ (10, WrongInFront l) ∷ []) (read_refusal r) (read_tells l r (refused_exactly.reads l r w g));
+  message = λ b out place r after w g. told ((11, 160 < length b) ∷ (10, NoBody b) ∷ (14, length out < place + length (frame_of b)) ∷ []) (write_refusal r) (message_tells b out place r (refused_exactly.writes b out place r after w g));
+  check = λ flat o r g. by_reply ((13, ¬ (GoodRows flat)) ∷ []) (check_reply r) (check_tells flat o r (order_check flat o r g));
+  order = λ flat place out r after g. by_reply ((13, ¬ (GoodRows flat)) ∷ (14, ¬ (Room flat place out)) ∷ (12, ¬ (HasOrder flat)) ∷ []) (write_reply r) (order_tells flat place out r after (order_writer flat place out r after g));
 }
