@@ -1,10 +1,11 @@
 // The service: messages on standard input, a line for each on standard output. Everything but the reading and the writing of
 // bytes is a turn of crate `turns`. RULES, The service.
 #![tactic(auto)]
+
 ghost use Rattle.std.specs.Prelude.{◌≡◌, ◌-◌, ◌≤◌, length, take, drop};
 ghost use Rattle.endian.specs.Laid.{laid};
 
-use libc::{STDIN_FILENO, STDOUT_FILENO};
+use std::io::{Read, Write};
 use table::Table;
 
 // Between two reads: the table, how many bytes of input wait in front of their buffer, and whether to go on.
@@ -30,7 +31,14 @@ fn move_down(buf: &mut [u8], from: usize, to: usize)
 
 // Answers every whole message that waits, a turn and a write at a time. The output's buffer takes the longest line, so a turn
 // that used nothing has found no whole message.
-fn settle(t: Table, waiting: usize, last: bool, input: &mut [u8], output: &mut [u8]) -> State
+fn settle<W: Write>(
+    t: Table,
+    waiting: usize,
+    last: bool,
+    input: &mut [u8],
+    output: &mut [u8],
+    to: &mut W,
+) -> State
     requires { waiting ≤ length input.old }
     ensures { result.waiting ≤ length input.old }
 {
@@ -41,7 +49,7 @@ fn settle(t: Table, waiting: usize, last: bool, input: &mut [u8], output: &mut [
         let written = r.written;
         let used = r.used;
         table = r.table;
-        let sent = io::write_all(STDOUT_FILENO, &output[..written]);
+        let sent = to.write_all(&output[..written]).is_ok();
         move_down(input, used, left);
         left -= used;
         if r.over | !sent {
@@ -61,29 +69,35 @@ fn settle(t: Table, waiting: usize, last: bool, input: &mut [u8], output: &mut [
     }
 }
 
-// Reads once, and answers what is then whole. A read that gives nothing is the end of the input.
-fn round(s: State, input: &mut [u8], output: &mut [u8]) -> State
+// Reads once, and answers what is then whole. A read that gives nothing is the end of the input; one that fails ends the run.
+fn round<R: Read, W: Write>(
+    s: State,
+    input: &mut [u8],
+    output: &mut [u8],
+    from: &mut R,
+    to: &mut W,
+) -> State
     requires { s.waiting ≤ length input.old }
     ensures { result.waiting ≤ length input.old }
 {
     let waiting = s.waiting;
     let table = s.table;
-    let got = libc::read(STDIN_FILENO, &mut input[waiting..]);
-    if got < 0 {
-        return State {
+    match from.read(&mut input[waiting..]) {
+        Ok(n) => settle(table, waiting + n, n == 0, input, output, to),
+        Err(_) => State {
             table: table,
             waiting: waiting,
             going: false,
-        };
+        },
     }
-    let n = io::count(got, &input[waiting..]);
-    settle(table, waiting + n, n == 0, input, output)
 }
 
 // A proved loop has to end, and nothing says that the input does: it counts its reads down from a number that no run uses up.
-fn main() {
-    let mut input = io::large_buffer();
-    let mut output = io::large_buffer();
+fn main(rt: HostRuntime) {
+    let mut from = rt.stdin();
+    let mut to = rt.stdout();
+    let mut input = [0u8; 65536];
+    let mut output = [0u8; 65536];
     let table = table::closed();
     let mut state = State {
         table: table,
@@ -92,7 +106,7 @@ fn main() {
     };
     let mut reads = u64::MAX;
     while reads > 0 {
-        state = round(state, &mut input, &mut output);
+        state = round(state, &mut input, &mut output, &mut from, &mut to);
         if !state.going {
             return;
         }
