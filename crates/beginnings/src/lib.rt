@@ -1,5 +1,6 @@
 // The call that gives a transaction its number, its slot and its bases: begin. RULES, Calls.
 #![tactic(auto)]
+
 ghost use Rattle.std.specs.Prelude.{◌≡◌, ◌<◌, ◌+◌, length, replicate};
 ghost use Rattle.sites.specs.Sites.{sites_of};
 ghost use Rattle.method.specs.Records.{number, no_part, with_row, with_last};

@@ -1,5 +1,6 @@
 // Decide: a fully prepared transaction commits if it makes no cycle among the kept committed ones. RULES, Graph and decision.
 #![tactic(auto)]
+
 ghost use Rattle.std.specs.Prelude.{◌≡◌, ◌<◌};
 ghost use Rattle.method.specs.Calls.Call.{decide as decideCall};
 ghost use Rattle.method.specs.Effects.{step};

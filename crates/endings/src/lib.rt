@@ -1,5 +1,6 @@
 // The calls that free a slot at the caller's word: abort and forget. RULES, Calls.
 #![tactic(auto)]
+
 ghost use Rattle.std.specs.Prelude.{◌≡◌};
 ghost use Rattle.method.specs.Calls.Call.{abort as abortCall, forget as forgetCall};
 ghost use Rattle.method.specs.Effects.{step};

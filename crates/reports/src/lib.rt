@@ -1,5 +1,6 @@
 // What the sites report: a ticket, and that they are prepared. RULES, The table; Calls.
 #![tactic(auto)]
+
 ghost use Rattle.std.specs.Prelude.{◌≡◌, ◌<◌};
 ghost use Rattle.method.specs.Records.{row_at, with_row, with_part};
 ghost use Rattle.method.specs.Calls.Call.{report_ticket, report_prepared};

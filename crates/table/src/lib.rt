@@ -1,6 +1,7 @@
 // The table that a caller holds. Its one field is private: no other program can make a table, or change one, but by these
 // calls. What each call does is defined in crate `method`. RULES, The table; Calls.
 #![tactic(auto)]
+
 ghost use Rattle.std.specs.Prelude.{◌≡◌, ◌*◌, length};
 ghost use Rattle.method.specs.Records.{closed as closedTable};
 ghost use Rattle.method.specs.Slots.{kept_flat};

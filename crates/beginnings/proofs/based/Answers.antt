@@ -1,13 +1,10 @@
 -- `beginnings::based` meets its contract: what the sites that are left would make of the parts so far is what all sites make of none.
 -- Assumes nothing.
-use mathlib.Core.Path.{◌≡◌, refl, sym, ◌∙◌}
-use Prim.Native.Nat.{◌<◌}
+use mathlib.Core.Path.{sym, ◌∙◌}
 use native.Mathlib.Omega.{arith}
-use lib.ListN.{length, replicate, length-set}
-use borrow.Author.Rules.{rules}
-use Rattle.sites.specs.Sites.{sites_of, Turn}
+use lib.ListN.{length-set}
+use Rattle.sites.specs.Sites.{Turn}
 use Rattle.sites.proofs.ByteLaws.{turn, sites_zero}
-use Rattle.method.specs.Records.{no_part}
 use Rattle.method.specs.Effects.{based}
 use Rattle.beginnings.proofs.based.Goals.{In-loop-left}
 use Rattle.beginnings.proofs.based.Goals as goal
@@ -17,7 +14,7 @@ at c = turn c.loop-left.left c.loop-left-test.true c.loop-left.invariant.0
 
 pub loop-left-preserved : goal.loop-left-preserved
 unfolding based
-loop-left-preserved c =     let l = c.loop-left in
+loop-left-preserved c = let l = c.loop-left in
     (omega (arith, (at ((goal.at.loop-left-preserved c).In-loop-left)).falls), l.invariant.1 ∙ rw (at ((goal.at.loop-left-preserved c).In-loop-left)).step, simp length-set l.invariant.2, l.invariant.3)
 
 pub returns : goal.returns

@@ -1,11 +1,9 @@
 -- `beginnings::begin` meets its contract: each way out is one of the laws on begin. Assumes nothing.
 use mathlib.Core.Path.{◌≡◌, sym, ◌∙◌}
 use mathlib.Core.Bool.{false}
-use Prim.Native.Nat.{ℕ}
 use native.Mathlib.Omega.{arith}
 use lib.ListN.{length}
 use borrow.Author.Rules.{rules}
-use Rattle.method.specs.declared.Table.{Table}
 use Rattle.method.specs.Slots.{free_slot}
 use Rattle.method.specs.Conditions.{bad_sites}
 use Rattle.method.proofs.SearchLaws.{unmapped}
@@ -30,22 +28,28 @@ returns-then-t-eq0 c = let a = c.args in record { answer = c.refuse.ensures.answ
 pub returns-then-are_bad_sites : goal.returns-then-are_bad_sites
 returns-then-are_bad_sites c =
     let a = c.args in
-    record { answer = c.refuse-then-are_bad_sites.ensures.answer
-    ∙ sym (begin_badly a.t a.x c.if-t-eq0.false (sym c.are_bad_sites.ensures.answer ∙ c.if-are_bad_sites.true)) }
+    record {
+      answer = c.refuse-then-are_bad_sites.ensures.answer
+          ∙ sym (begin_badly a.t a.x c.if-t-eq0.false (sym c.are_bad_sites.ensures.answer ∙ c.if-are_bad_sites.true));
+    }
 
 pub returns-then-last : goal.returns-then-last
 returns-then-last c =
     let a = c.args in
-    record { answer = c.refuse-then-last.ensures.answer
-    ∙ sym (begin_used_up a.t a.x c.if-t-eq0.false (good (goal.at.returns-then-last c).Else-are_bad_sites) c.if-last.true) }
+    record {
+      answer = c.refuse-then-last.ensures.answer
+          ∙ sym (begin_used_up a.t a.x c.if-t-eq0.false (good (goal.at.returns-then-last c).Else-are_bad_sites) c.if-last.true);
+    }
 
 pub returns-then-slot-eq-SLOTS : goal.returns-then-slot-eq-SLOTS
 returns-then-slot-eq-SLOTS c =
     let a = c.args in
     let f = (goal.at.returns-then-slot-eq-SLOTS c).After-lowest_free-slot in
     let e = (goal.at.returns-then-slot-eq-SLOTS c).Else-are_bad_sites in
-    record { answer = c.refuse-then-slot-eq-SLOTS.ensures.answer
-    ∙ sym (begin_full a.t a.x c.if-t-eq0.false (good e) c.if-last.false (slots f) (sym c.lowest_free-slot.ensures.answer ∙ c.if-slot-eq-SLOTS.true)) }
+    record {
+      answer = c.refuse-then-slot-eq-SLOTS.ensures.answer
+          ∙ sym (begin_full a.t a.x c.if-t-eq0.false (good e) c.if-last.false (slots f) (sym c.lowest_free-slot.ensures.answer ∙ c.if-slot-eq-SLOTS.true));
+    }
 
 pub begun-requires : goal.begun-requires
 begun-requires c =
@@ -58,5 +62,7 @@ returns c =
     let some : free_slot a.t ≡ 32 → ⊥ = λ q. c.if-slot-eq-SLOTS.false (c.lowest_free-slot.ensures.answer ∙ q) in
     let f = (goal.at.returns c).After-lowest_free-slot in
     let e = (goal.at.returns c).Else-are_bad_sites in
-    record { answer = c.begun.ensures.answer
-    ∙ rw c.lowest_free-slot.ensures.answer (sym (begin_done a.t a.x c.if-t-eq0.false (good e) c.if-last.false (slots f) some)) }
+    record {
+      answer = c.begun.ensures.answer
+          ∙ rw c.lowest_free-slot.ensures.answer (sym (begin_done a.t a.x c.if-t-eq0.false (good e) c.if-last.false (slots f) some));
+    }

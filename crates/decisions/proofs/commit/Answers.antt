@@ -1,13 +1,11 @@
 -- `decisions::commit` meets its contract. Assumes nothing.
 use mathlib.Core.Path.{ap}
-use borrow.Author.Rules.{rules}
 use Rattle.method.specs.declared.Answer.{Answer}
 use Rattle.method.specs.declared.Answered.{Answered}
 use Rattle.method.specs.Records.{row_at, with_row, with_high}
 use Rattle.method.specs.Effects.{answered, committed_row}
-use Rattle.method.proofs.SearchLaws.{unmapped}
 use Rattle.decisions.proofs.commit.Goals as goal
 
 pub returns : goal.returns
 unfolding committed_row
-returns c =     let a = c.args in record { answer = ap {B = Answered} (λ hs. answered (with_high (with_row a.t a.slot (committed_row a.t (row_at a.t a.slot))) hs) (Answer.Commit a.n)) c.raised-high.ensures.answer }
+returns c = let a = c.args in record { answer = ap {B = Answered} (λ hs. answered (with_high (with_row a.t a.slot (committed_row a.t (row_at a.t a.slot))) hs) (Answer.Commit a.n)) c.raised-high.ensures.answer }

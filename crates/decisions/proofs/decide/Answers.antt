@@ -1,12 +1,11 @@
 -- `decisions::decide` meets its contract: each way out is one of the laws on decide. Assumes nothing.
 use mathlib.Core.Path.{◌≡◌, sym, ◌∙◌}
 use mathlib.Core.Bool.{false}
-use Prim.Native.Nat.{ℕ, ◌<◌}
+use Prim.Native.Nat.{◌<◌}
 use native.Mathlib.Omega.{arith}
 use lib.ListN.{length}
 use borrow.Author.Rules.{rules}
 use borrow.Author.Tests.{not-true, not-false}
-use Rattle.method.specs.declared.Table.{Table}
 use Rattle.method.specs.Records.{row_at}
 use Rattle.method.specs.Conditions.{not_prepared}
 use Rattle.method.proofs.SearchLaws.{unmapped}
@@ -41,15 +40,19 @@ bounds-t-slot c = inside (goal.at.bounds-t-slot c).In-At
 pub returns-then-not-is_prepared : goal.returns-then-not-is_prepared
 returns-then-not-is_prepared c =
     let f = (goal.at.returns-then-not-is_prepared c).In-At in
-    record { answer = c.refuse-then-not-is_prepared.ensures.answer
-    ∙ sym (decide_early c.args.t (rows f) c.args.n.0 c.in-At.slot (at f) (not-false _ (sym c.is_prepared.ensures.answer ∙ c.if-not-is_prepared.true))) }
+    record {
+      answer = c.refuse-then-not-is_prepared.ensures.answer
+          ∙ sym (decide_early c.args.t (rows f) c.args.n.0 c.in-At.slot (at f) (not-false _ (sym c.is_prepared.ensures.answer ∙ c.if-not-is_prepared.true)));
+    }
 
 pub returns-then-has_cycle : goal.returns-then-has_cycle
 returns-then-has_cycle c =
     let f = (goal.at.returns-then-has_cycle c).In-At in
     let p : not_prepared (row_at c.args.t c.in-At.slot) ≡ false = not-true _ (sym c.is_prepared.ensures.answer ∙ c.if-not-is_prepared.false) in
-    record { answer = c.cancel.ensures.answer
-    ∙ sym (decide_cycle c.args.t (rows f) c.args.n.0 c.in-At.slot (at f) p c.tickets-flat.result c.tickets-flat.ensures.answer c.has_cycle.result c.has_cycle.ensures.answer c.if-has_cycle.true) }
+    record {
+      answer = c.cancel.ensures.answer
+          ∙ sym (decide_cycle c.args.t (rows f) c.args.n.0 c.in-At.slot (at f) p c.tickets-flat.result c.tickets-flat.ensures.answer c.has_cycle.result c.has_cycle.ensures.answer c.if-has_cycle.true);
+    }
 
 pub returns-in-Refused : goal.returns-in-Refused
 returns-in-Refused c =
@@ -60,5 +63,7 @@ pub returns-else-has_cycle : goal.returns-else-has_cycle
 returns-else-has_cycle c =
     let f = (goal.at.returns-else-has_cycle c).In-At in
     let p : not_prepared (row_at c.args.t c.in-At.slot) ≡ false = not-true _ (sym c.is_prepared.ensures.answer ∙ c.if-not-is_prepared.false) in
-    record { answer = c.commit.ensures.answer
-    ∙ sym (decide_commit c.args.t (rows f) c.args.n.0 c.in-At.slot (at f) p c.tickets-flat.result c.tickets-flat.ensures.answer c.has_cycle.result c.has_cycle.ensures.answer c.if-has_cycle.false) }
+    record {
+      answer = c.commit.ensures.answer
+          ∙ sym (decide_commit c.args.t (rows f) c.args.n.0 c.in-At.slot (at f) p c.tickets-flat.result c.tickets-flat.ensures.answer c.has_cycle.result c.has_cycle.ensures.answer c.if-has_cycle.false);
+    }

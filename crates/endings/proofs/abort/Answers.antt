@@ -43,13 +43,13 @@ bounds-t-slot c = (passed ((goal.at.bounds-t-slot c).In-At)).inside
 
 pub returns-then-not-is_active : goal.returns-then-not-is_active
 unfolding step act checks
-returns-then-not-is_active c =     let p = passed ((goal.at.returns-then-not-is_active c).In-At) in record { answer = c.refuse-then-not-is_active.ensures.answer ∙ sym (rw (p.on, sym p.slot, sym c.is_active.ensures.answer, c.if-not-is_active.true)) }
+returns-then-not-is_active c = let p = passed ((goal.at.returns-then-not-is_active c).In-At) in record { answer = c.refuse-then-not-is_active.ensures.answer ∙ sym (rw (p.on, sym p.slot, sym c.is_active.ensures.answer, c.if-not-is_active.true)) }
 
 pub returns-in-Refused : goal.returns-in-Refused
 unfolding step act checks
-returns-in-Refused c =     let a = c.args in
+returns-in-Refused c = let a = c.args in
     let e : gate_of a.t a.n.0 ≡ Gate.Refused c.in-Refused.k = sym c.enter.ensures.answer ∙ c.in-Refused.is in record { answer = c.refuse.ensures.answer ∙ sym (rw (gate_refused a.t a.n.0 _ (rest a.t a.n.0) e)) }
 
 pub returns-else-not-is_active : goal.returns-else-not-is_active
 unfolding step act checks effect
-returns-else-not-is_active c =     let p = passed ((goal.at.returns-else-not-is_active c).In-At) in record { answer = c.without.ensures.answer ∙ sym (rw (p.on, sym p.slot, sym c.is_active.ensures.answer, c.if-not-is_active.false) (rw p.slot)) }
+returns-else-not-is_active c = let p = passed ((goal.at.returns-else-not-is_active c).In-At) in record { answer = c.without.ensures.answer ∙ sym (rw (p.on, sym p.slot, sym c.is_active.ensures.answer, c.if-not-is_active.false) (rw p.slot)) }

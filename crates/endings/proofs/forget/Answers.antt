@@ -53,33 +53,39 @@ bounds-t-slot c = (passed ((goal.at.bounds-t-slot c).In-At)).inside
 
 pub returns-then-not-is_committed : goal.returns-then-not-is_committed
 unfolding step act checks
-returns-then-not-is_committed c =     let p = passed ((goal.at.returns-then-not-is_committed c).In-At) in record { answer = c.refuse-then-not-is_committed.ensures.answer ∙ sym (rw (p.on, sym p.slot, sym c.is_committed.ensures.answer, c.if-not-is_committed.true)) }
+returns-then-not-is_committed c = let p = passed ((goal.at.returns-then-not-is_committed c).In-At) in record { answer = c.refuse-then-not-is_committed.ensures.answer ∙ sym (rw (p.on, sym p.slot, sym c.is_committed.ensures.answer, c.if-not-is_committed.true)) }
 
 pub returns-then-has_pred : goal.returns-then-has_pred
 unfolding step act checks
-returns-then-has_pred c =     let p = passed ((goal.at.returns-then-has_pred c).In-At) in
+returns-then-has_pred c = let p = passed ((goal.at.returns-then-has_pred c).In-At) in
     let k = named (goal.at.returns-then-has_pred c).In-At true (sym c.is_committed.ensures.answer ∙ c.if-not-is_committed.false) in
     let m : may_not_forget c.args.t (row_of_number c.args.t c.args.n.0) ≡ true =
-        may_not c.args.t c.args.n.0 c.in-At.slot p.slot true (held_back c.args.t (row_at c.args.t c.in-At.slot)) (sym c.if-has_pred.true ∙ c.has_pred.ensures.answer) refl in record { answer = c.refuse-then-has_pred.ensures.answer
-    ∙ sym (rw (p.on, k, m)) }
+    may_not c.args.t c.args.n.0 c.in-At.slot p.slot true (held_back c.args.t (row_at c.args.t c.in-At.slot)) (sym c.if-has_pred.true ∙ c.has_pred.ensures.answer) refl in record {
+      answer = c.refuse-then-has_pred.ensures.answer
+          ∙ sym (rw (p.on, k, m));
+    }
 
 pub returns-then-is_held_back : goal.returns-then-is_held_back
 unfolding step act checks
-returns-then-is_held_back c =     let p = passed ((goal.at.returns-then-is_held_back c).In-At) in
+returns-then-is_held_back c = let p = passed ((goal.at.returns-then-is_held_back c).In-At) in
     let k = named (goal.at.returns-then-is_held_back c).In-At true (sym c.is_committed.ensures.answer ∙ c.if-not-is_committed.false) in
     let m : may_not_forget c.args.t (row_of_number c.args.t c.args.n.0) ≡ true =
-        may_not c.args.t c.args.n.0 c.in-At.slot p.slot false true (sym c.if-has_pred.false ∙ c.has_pred.ensures.answer) (sym c.if-is_held_back.true ∙ c.is_held_back.ensures.answer) in record { answer = c.refuse-then-is_held_back.ensures.answer
-    ∙ sym (rw (p.on, k, m)) }
+    may_not c.args.t c.args.n.0 c.in-At.slot p.slot false true (sym c.if-has_pred.false ∙ c.has_pred.ensures.answer) (sym c.if-is_held_back.true ∙ c.is_held_back.ensures.answer) in record {
+      answer = c.refuse-then-is_held_back.ensures.answer
+          ∙ sym (rw (p.on, k, m));
+    }
 
 pub returns-in-Refused : goal.returns-in-Refused
 unfolding step act checks
-returns-in-Refused c =     let a = c.args in
+returns-in-Refused c = let a = c.args in
     let e : gate_of a.t a.n.0 ≡ Gate.Refused c.in-Refused.k = sym c.enter.ensures.answer ∙ c.in-Refused.is in record { answer = c.refuse.ensures.answer ∙ sym (rw (gate_refused a.t a.n.0 _ (rest a.t a.n.0) e)) }
 
 pub returns-else-is_held_back : goal.returns-else-is_held_back
 unfolding step act checks effect
-returns-else-is_held_back c =     let p = passed ((goal.at.returns-else-is_held_back c).In-At) in
+returns-else-is_held_back c = let p = passed ((goal.at.returns-else-is_held_back c).In-At) in
     let k = named (goal.at.returns-else-is_held_back c).In-At true (sym c.is_committed.ensures.answer ∙ c.if-not-is_committed.false) in
     let m : may_not_forget c.args.t (row_of_number c.args.t c.args.n.0) ≡ false =
-        may_not c.args.t c.args.n.0 c.in-At.slot p.slot false false (sym c.if-has_pred.false ∙ c.has_pred.ensures.answer) (sym c.if-is_held_back.false ∙ c.is_held_back.ensures.answer) in record { answer = c.without.ensures.answer
-    ∙ sym (rw (p.on, k, m) (rw p.slot)) }
+    may_not c.args.t c.args.n.0 c.in-At.slot p.slot false false (sym c.if-has_pred.false ∙ c.has_pred.ensures.answer) (sym c.if-is_held_back.false ∙ c.is_held_back.ensures.answer) in record {
+      answer = c.without.ensures.answer
+          ∙ sym (rw (p.on, k, m) (rw p.slot));
+    }

@@ -5,11 +5,10 @@ use Prim.Native.Nat.{ℕ, ◌<◌}
 use native.Mathlib.Omega.{arith}
 use lib.ListN.{length}
 use borrow.Author.Rules.{rules}
-use Rattle.method.specs.declared.Stage.{Stage}
 use Rattle.method.specs.declared.Report.{Report}
 use Rattle.method.specs.declared.Row.{Row}
 use Rattle.method.specs.declared.Table.{Table}
-use Rattle.method.specs.Records.{row_at, part_at, ticket, with_row}
+use Rattle.method.specs.Records.{row_at, part_at, with_row}
 use Rattle.method.specs.Calls.{checks}
 use Rattle.method.specs.Calls.Call.{report_prepared}
 use Rattle.method.specs.declared.Answer.{Answer}
@@ -74,9 +73,11 @@ pub returns-in-Refused-next_place : goal.returns-in-Refused-next_place
 returns-in-Refused-next_place c =
     let w = goal.at.returns-in-Refused-next_place c in
     let r : place_of (row_at c.args.t c.in-At.slot) c.args.s Report.Prepared ≡ Place.Refused c.in-Refused-next_place.y =
-        sym c.next_place.ensures.answer ∙ c.in-Refused-next_place.is in
-    record { answer = c.refuse-in-Refused-next_place.ensures.answer
-    ∙ sym (report_misplaced c.args.t (rows w.In-At) c.args.n.0 c.args.s Report.Prepared [] (report_prepared c.args.n.0 c.args.s) (prepared_checks c.args.t c.args.n.0 c.args.s) c.in-At.slot (at w.In-At) _ r) }
+    sym c.next_place.ensures.answer ∙ c.in-Refused-next_place.is in
+    record {
+      answer = c.refuse-in-Refused-next_place.ensures.answer
+          ∙ sym (report_misplaced c.args.t (rows w.In-At) c.args.n.0 c.args.s Report.Prepared [] (report_prepared c.args.n.0 c.args.s) (prepared_checks c.args.t c.args.n.0 c.args.s) c.in-At.slot (at w.In-At) _ r);
+    }
 
 done : (t : Table) (n s : ℕ) → effect t (report_prepared n s) ≡ answered (with_row t (slot_of t n) (reported (row_of_number t n) s Report.Prepared (part_at (row_of_number t n) s).ticket)) Answer.Done
 unfolding effect

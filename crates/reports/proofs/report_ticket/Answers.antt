@@ -4,10 +4,8 @@ use Prim.Native.Nat.{ℕ, ◌<◌}
 use native.Mathlib.Omega.{arith}
 use lib.ListN.{length}
 use borrow.Author.Rules.{rules}
-use Rattle.method.specs.declared.Stage.{Stage}
 use Rattle.method.specs.declared.Report.{Report}
 use Rattle.method.specs.declared.Row.{Row}
-use Rattle.method.specs.declared.Ticket.{Ticket}
 use Rattle.method.specs.declared.Table.{Table}
 use Rattle.method.specs.Records.{row_at, part_at, ticket, with_row}
 use mathlib.Core.Option.{some}
@@ -75,8 +73,10 @@ returns-then-k-base c =
 pub returns-then-is_taken : goal.returns-then-is_taken
 returns-then-is_taken c =
     let w = goal.at.returns-then-is_taken c in let l = rows w.In-At in let a = at w.In-At in
-    record { answer = c.refuse-then-is_taken.ensures.answer
-    ∙ sym (stops w.In-To l a 6 (ticket_rival c.args.t c.args.n.0 c.args.s c.args.k.0 _ (base w.In-To l a) c.if-k-base.false (sym c.is_taken.ensures.answer ∙ c.if-is_taken.true))) }
+    record {
+      answer = c.refuse-then-is_taken.ensures.answer
+          ∙ sym (stops w.In-To l a 6 (ticket_rival c.args.t c.args.n.0 c.args.s c.args.k.0 _ (base w.In-To l a) c.if-k-base.false (sym c.is_taken.ensures.answer ∙ c.if-is_taken.true)));
+    }
 
 pub with_part-requires : goal.with_part-requires
 with_part-requires c = let w = goal.at.with_part-requires c in (inside w.In-At, site w.In-To (rows w.In-At) (at w.In-At))
@@ -91,9 +91,11 @@ pub returns-in-Refused-next_place : goal.returns-in-Refused-next_place
 returns-in-Refused-next_place c =
     let w = goal.at.returns-in-Refused-next_place c in
     let r : place_of (row_at c.args.t c.in-At.slot) c.args.s Report.Ticket ≡ Place.Refused c.in-Refused-next_place.y =
-        sym c.next_place.ensures.answer ∙ c.in-Refused-next_place.is in
-    record { answer = c.refuse-in-Refused-next_place.ensures.answer
-    ∙ sym (report_misplaced c.args.t (rows w.In-At) c.args.n.0 c.args.s Report.Ticket (own c.args.t c.args.n.0 c.args.s c.args.k.0) (report_ticket c.args.n.0 c.args.s c.args.k.0) (ticket_checks c.args.t c.args.n.0 c.args.s c.args.k.0) c.in-At.slot (at w.In-At) _ r) }
+    sym c.next_place.ensures.answer ∙ c.in-Refused-next_place.is in
+    record {
+      answer = c.refuse-in-Refused-next_place.ensures.answer
+          ∙ sym (report_misplaced c.args.t (rows w.In-At) c.args.n.0 c.args.s Report.Ticket (own c.args.t c.args.n.0 c.args.s c.args.k.0) (report_ticket c.args.n.0 c.args.s c.args.k.0) (ticket_checks c.args.t c.args.n.0 c.args.s c.args.k.0) c.in-At.slot (at w.In-At) _ r);
+    }
 
 done : (t : Table) (n s k : ℕ) → effect t (report_ticket n s k) ≡ answered (with_row t (slot_of t n) (reported (row_of_number t n) s Report.Ticket (ticket k))) Answer.Done
 unfolding effect
