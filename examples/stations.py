@@ -1,7 +1,7 @@
 #!/usr/bin/env python3
 """The February story, without the coordinator and with it. From the project's folder:
 
-    rt check service
+    tools/build service
     python3 examples/stations.py
 
 Two stations, each with its own database. One evening two transactions run at both: the move of the relief boat from the
@@ -107,7 +107,7 @@ def with_coordinator(service):
 if __name__ == "__main__":
     service = os.environ.get("OTM_SERVICE") or ROOT / "target" / "bin" / "service"
     if not Path(service).is_file():
-        sys.exit("The service is not built: run 'rt check service' in the project's folder, or let OTM_SERVICE name one.")
+        sys.exit("The service is not built: run 'tools/build service' in the project's folder, or let OTM_SERVICE name one.")
     without()
     print()
     with_coordinator(str(service))

@@ -18,7 +18,7 @@
  * overlap. The call writes to neither, keeps no pointer, allocates nothing, has no state and takes some two kilobytes of
  * stack, so that any number of threads may call it at once. It always returns.
  *
- * Link target/staticlib/libccheck.a, which `rt staticlib ccheck` makes, for x86-64.
+ * Link target/staticlib/libccheck.a, which `tools/build ccheck` makes, for x86-64.
  */
 #ifndef ORDER_CHECK_H
 #define ORDER_CHECK_H

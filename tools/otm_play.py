@@ -45,7 +45,7 @@ def program():
         raise NoService(f"OTM_SERVICE names the socket '{named}', and a program is needed here.")
     if named:
         raise NoService(f"OTM_SERVICE names '{named}', and there is no such program.")
-    raise NoService("The service is not built: run 'rt check service' in the project's folder, or let OTM_SERVICE name one.")
+    raise NoService("The service is not built: run 'tools/build service' in the project's folder, or let OTM_SERVICE name one.")
 
 
 def answers(stream):

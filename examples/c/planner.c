@@ -1,7 +1,7 @@
 /* A planner's server in small: it keeps rows of tickets, gets proposed orders from wherever, and asks the proved check about
  * each. From the project's folder:
  *
- *   rt staticlib ccheck
+ *   tools/build ccheck
  *   cc -Iinclude examples/c/planner.c target/staticlib/libccheck.a -o target/planner && target/planner
  */
 #include <stdio.h>

@@ -1,4 +1,4 @@
-"""Two lifeboat stations in real databases. From the project's folder, with the service built by `rt check service`:
+"""Two lifeboat stations in real databases. From the project's folder, with the service built by `tools/build service`:
 
     python3 examples/databases [SCENE ..] [--stations OLD NEW] [--sql]
 
@@ -36,7 +36,7 @@ def main():
     if asked.stations and asked.stations[1] != "postgresql":
         reader.error("the new station is PostgreSQL's: at a MariaDB that is SERIALIZABLE the move would wait for the planning")
     if not Path(coordinator.SERVICE).is_file():
-        sys.exit("The service is not built: run 'rt check service' in the project's folder, or let OTM_SERVICE name one.")
+        sys.exit("The service is not built: run 'tools/build service' in the project's folder, or let OTM_SERVICE name one.")
     pairs = [asked.stations] if asked.stations else [("postgresql", "postgresql"), ("mariadb", "postgresql")]
     for pair in pairs:
         lacking = [words for words in map(servers.missing, set(pair)) if words]

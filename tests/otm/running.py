@@ -66,7 +66,7 @@ def no_service():
         bare = {k: v for k, v in os.environ.items() if k != "OTM_SERVICE"}
         for words in (["run", "-"], ["talk"], ["graph", "-"]):
             done = Said(subprocess.run([f"{folder}/tools/otm", *words], input=b"sweep", capture_output=True, env=bare))
-            sentence = "The service is not built: run 'rt check service' in the project's folder"
+            sentence = "The service is not built: run 'tools/build service' in the project's folder"
             hold(f"otm {words[0]} without a service", done.status == 2 and done.err.startswith(sentence) and len(done.err.splitlines()) == 1, done)
         done = Said(subprocess.run([f"{folder}/tools/otm", "encode"], input=b"sweep", capture_output=True, env=bare))
         hold("encode needs none", done.status == 0 and done.bytes == bytes.fromhex("01000107"), done)

@@ -115,7 +115,7 @@ fn service(options: &Options) -> Result<Program, String> {
     let patience = Duration::from_secs(20);
     match options.contains_key("--self") {
         true => Ok(Program::new(own()?, &["serve"], patience)),
-        false => there(word(options, "--service", "target/bin/service"), "`rt check service` builds it")
+        false => there(word(options, "--service", "target/bin/service"), "`tools/build service` builds it")
             .map(|path| Program::new(path, &[], patience)),
     }
 }
@@ -124,7 +124,7 @@ fn run(options: &Options) -> Result<bool, String> {
     let seed = word(options, "--seed", "1");
     let driver = there(
         word(options, "--driver", "target/model/driver"),
-        "tests/model/run builds it over target/staticlib/libccheck.a, which `rt staticlib ccheck` makes",
+        "tests/model/run builds it over target/staticlib/libccheck.a, which `tools/build ccheck` makes",
     );
     let plan = suite::Plan {
         seed: seed.parse().map_err(|_| format!("the seed must be a number, and is {seed}"))?,
