@@ -1,16 +1,15 @@
 -- A decision keeps the invariant: commit, if the candidate fits, and it does if it makes no cycle with the kept rows; else its slot is
 -- freed.
 -- Assumes nothing.
-use mathlib.Core.Path.{◌≡◌, refl, sym, ap, subst, ◌∙◌}
-use mathlib.Core.Bool.{Bool, true, false}
+use mathlib.Core.Path.{◌≡◌, refl, ap, subst, ◌∙◌}
+use mathlib.Core.Bool.{true, false}
 use mathlib.Core.List.{List, ◌∷◌, map}
-use mathlib.Core.Logic.{◌≢◌, ◌⊎◌, inl, inr}
+use mathlib.Core.Logic.{◌⊎◌, inl, inr}
 use Prim.Native.Nat.{ℕ, ◌<◌, ◌≤◌, max}
 use native.Mathlib.Omega.{arith}
 use native.Mathlib.Decide.{dec_le}
 use lib.ListN.{length, get_or, set}
 use lib.Seq.{get_or-set_same}
-use Rattle.graph.specs.Lists.{◌∈◌}
 use Rattle.graph.specs.Path.{Cycle}
 use Rattle.graph.proofs.MemberLaws.{member_or_not}
 use Rattle.graph.proofs.TestLaws.{true_or_false, true_not_false}
@@ -33,7 +32,7 @@ use Rattle.method.proofs.SlotLaws.{first_of_set, kept_of_place, place_of_kept}
 use Rattle.method.proofs.ConditionLaws.{has_number_iff}
 use Rattle.method.proofs.RowLaws.{ticket_part, length_raised, raised_other, raised_listed}
 use Rattle.method.specs.Seen.{IsActive, IsCommitted, Has, tick}
-use Rattle.invariant.specs.Sound.{Differs, Sound}
+use Rattle.invariant.specs.Sound.{Differs}
 use Rattle.invariant.specs.Orderly.{Fits}
 use Rattle.invariant.specs.Invariant.{Invariant}
 use Rattle.invariant.proofs.ChangeLaws.{not_committed}

@@ -5,15 +5,13 @@ use mathlib.Core.Logic.{◌≢◌, ◌⊎◌, inl, inr}
 use Prim.Native.Nat.{ℕ, ◌<◌}
 use lib.ListN.{length}
 use Rattle.orders.specs.Entries.{Entry}
-use Rattle.method.specs.declared.State.{State}
 use Rattle.method.specs.declared.Row.{Row}
 use Rattle.method.specs.declared.Table.{Table}
 use Rattle.method.specs.Records.{free_row, row_at, high_at, with_row, Goes}
 use Rattle.method.specs.Slots.{slot_of, row_of_number, entry_of}
 use Rattle.method.specs.Conditions.{Closed, Unknown, MayNotForget}
 use Rattle.method.specs.Effects.{freed}
-use Rattle.method.proofs.RecordLaws.{never}
-use Rattle.method.specs.Seen.{IsFree, IsActive, IsCommitted, num}
+use Rattle.method.specs.Seen.{IsActive, IsCommitted, num}
 use Rattle.invariant.specs.Sound.{Past, Gone, Sound}
 use Rattle.invariant.specs.Invariant.{Invariant}
 use Rattle.invariant.proofs.ChangeLaws.{Changed, not_committed, not_free, every}

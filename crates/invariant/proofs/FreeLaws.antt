@@ -1,6 +1,6 @@
 -- A table in which some slots became free, and no committed one was lost that an arrow could still reach. This is all that
 -- abort, a decision for cycle, forget and sweep do. Assumes nothing.
-use mathlib.Core.Path.{◌≡◌, refl, sym, ap, subst, ◌∙◌}
+use mathlib.Core.Path.{◌≡◌, sym, ap, subst, ◌∙◌}
 use mathlib.Core.Logic.{◌≢◌, ◌⊎◌, inl, inr}
 use mathlib.Core.List.{List}
 use Prim.Native.Nat.{ℕ}

@@ -1,19 +1,14 @@
 -- Every call keeps the invariant, whatever it is and however it is answered. Assumes nothing.
-use mathlib.Core.Path.{◌≡◌, refl, sym, ap, subst, ◌∙◌}
+use mathlib.Core.Path.{◌≡◌, refl, sym, subst}
 use mathlib.Core.Bool.{Bool, true, false}
 use mathlib.Core.List.{List, ◌∷◌, map}
-use mathlib.Core.Logic.{◌⊎◌, inl, inr}
-use Prim.Native.Nat.{ℕ}
 use native.Mathlib.Decide.{ℕ_discrete}
-use Rattle.graph.specs.Path.{Cycle}
 use Rattle.graph.specs.Acyclic.{acyclic}
 use Rattle.orders.specs.Arrow.{arrowb}
 use Rattle.orders.specs.Entries.{Entry}
 use Rattle.method.specs.declared.Table.{Table}
-use Rattle.method.specs.declared.Answer.{Answer}
-use Rattle.method.specs.declared.Answered.{Answered}
-use Rattle.method.specs.Records.{tickets_of, Goes}
-use Rattle.method.specs.Slots.{row_of_number, kept, entry_of}
+use Rattle.method.specs.Records.{tickets_of}
+use Rattle.method.specs.Slots.{row_of_number, kept}
 use Rattle.method.specs.Conditions.{Closed}
 use Rattle.method.specs.Calls.{Call, rules, NoneHolds}
 use Rattle.method.specs.Calls.Call.{open_with, begin, report_ticket, report_prepared, abort, decide, forget, sweep}
@@ -22,7 +17,7 @@ use Rattle.method.proofs.CallLaws.{Steps, Steps.stopped, Steps.passed, step_goes
 use Rattle.method.proofs.GraphLaws.{no_cycle_iff}
 use Rattle.invariant.specs.Noted.{noted}
 use Rattle.invariant.specs.Invariant.{Invariant}
-use Rattle.invariant.proofs.OpenLaws.{invariant-closed, invariant-open, invariant-begin}
+use Rattle.invariant.proofs.OpenLaws.{invariant-open, invariant-begin}
 use Rattle.invariant.proofs.ReportLaws.{invariant-ticket, invariant-prepared}
 use Rattle.invariant.proofs.DropLaws.{invariant-abort, invariant-forget}
 use Rattle.invariant.proofs.DecideLaws.{entry_committed, fits_of_test, invariant-commit, invariant-cycle}

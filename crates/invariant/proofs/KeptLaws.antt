@@ -1,19 +1,18 @@
 -- On every table that calls can give, the kept rows are a good ticket table and have an order: the service never answers 12
 -- or 13. Assumes nothing.
-use mathlib.Core.Path.{◌≡◌, refl, sym, ap, ◌∙◌}
-use mathlib.Core.Bool.{Bool, true, false}
+use mathlib.Core.Path.{◌≡◌, sym, ap, ◌∙◌}
+use mathlib.Core.Bool.{true, false}
 use mathlib.Core.List.Memᴰ
 use mathlib.Core.List.{List, [], ◌∷◌, map}
 use mathlib.Core.Logic.{◌≢◌, ◌⊎◌, inl, inr}
-use Prim.Native.Nat.{ℕ, zero, suc, ◌*◌, ◌<◌, ◌≤◌, ◌%◌}
+use Prim.Native.Nat.{ℕ, zero, suc, ◌<◌}
 use native.Mathlib.Omega.{arith}
 use lib.ListN.{length, get_or, length-map}
 use Rattle.graph.specs.Lists.{◌∈◌, ◌⊆◌, keep}
-use Rattle.graph.specs.Path.{Cycle}
 use Rattle.graph.proofs.TestLaws.{true_or_false}
 use Rattle.graph.proofs.MemberLaws.{keep_of_true, keep_of_false, length_keep_le}
 use Rattle.graph.proofs.PathLaws.{cycle_of_larger}
-use Rattle.orders.specs.Entries.{Entry, EntryArrow, entries_in, flat_of}
+use Rattle.orders.specs.Entries.{Entry, entries_in}
 use Rattle.orders.specs.Good.{Apart, Clash, GoodRows}
 use Rattle.orders.specs.Order.{InOrder}
 use Rattle.orders.proofs.EntriesLaws.{length_flat_of, entries_of_flat}

@@ -1,6 +1,6 @@
 -- The newest against all that were ever committed: an active row that makes no cycle with the kept rows makes none with the
 -- forgotten ones either, and differs from each of them. Assumes nothing.
-use mathlib.Core.Path.{◌≡◌, sym, ap, subst, ◌∙◌}
+use mathlib.Core.Path.{◌≡◌, sym, subst}
 use mathlib.Core.Logic.{◌≢◌, ◌⊎◌, inl, inr}
 use mathlib.Core.List.Memᴰ
 use mathlib.Core.List.Memᴰ.{head as here}
@@ -17,7 +17,7 @@ use Rattle.orders.specs.Good.{Clash}
 use Rattle.method.specs.declared.Row.{Row}
 use Rattle.method.specs.Records.{tickets_of}
 use Rattle.method.specs.Slots.{entry_of}
-use Rattle.method.specs.Seen.{IsActive, IsCommitted, num, tick}
+use Rattle.method.specs.Seen.{IsActive, IsCommitted, tick}
 use Rattle.invariant.specs.Sound.{Above, Differs, Past, Still, Gone, Sound}
 use Rattle.invariant.proofs.ChangeLaws.{not_committed, not_free}
 

@@ -6,36 +6,34 @@ use mathlib.Core.Logic.{◌⊎◌, inl, inr}
 use Prim.Native.Nat.{ℕ, zero, suc, ◌+◌, ◌<◌, ◌≤◌}
 use native.Mathlib.Omega.{arith}
 use native.Mathlib.Decide.{dec_lt}
-use lib.ListN.{length, get_or, replicate, length-set, length-replicate, get_or-replicate, get_or-eq_default}
+use lib.ListN.{length, replicate, length-replicate, get_or-replicate, get_or-eq_default}
 use Rattle.graph.specs.Lists.{◌∈◌, any_of}
 use Rattle.graph.proofs.TestLaws.{true_of_not_false}
 use Rattle.graph.proofs.MemberLaws.{member_or_not}
 use Rattle.graph.proofs.PathLaws.{no_path_of_nil}
 use Rattle.orders.specs.Entries.{Entry}
 use Rattle.orders.proofs.GoodLaws.{apart_of_nil}
-use Rattle.sites.specs.Sites.{sites_of, Outside}
+use Rattle.sites.specs.Sites.{sites_of}
 use Rattle.sites.proofs.SitesLaws.{rising_sites, lt_of_member}
-use Rattle.method.specs.declared.Part.{Part}
 use Rattle.method.specs.declared.Row.{Row}
 use Rattle.method.specs.declared.Table.{Table}
-use Rattle.method.specs.Records.{ticket, no_part, free_row, past_end, closed, row_at, part_at, high_at, is_free, number, with_row, with_last}
+use Rattle.method.specs.Records.{no_part, free_row, past_end, closed, row_at, part_at, high_at, is_free, number, with_row, with_last}
 use Rattle.method.specs.Slots.{free_slot}
-use Rattle.method.specs.Conditions.{Closed, BadOpening, BadSites, Full, is_full}
-use Rattle.method.specs.Effects.{padded, opened, based, new_row, effect}
-use Rattle.method.specs.Calls.Call.{open_with, begin}
+use Rattle.method.specs.Conditions.{Closed, BadOpening, BadSites, Full}
+use Rattle.method.specs.Effects.{padded, opened, new_row, effect}
+use Rattle.method.specs.Calls.Call.{begin}
 use Rattle.method.proofs.RecordLaws.{never, free_iff}
 use Rattle.method.proofs.ConditionLaws.{full_iff}
 use Rattle.method.proofs.SlotLaws.{first_found}
 use Rattle.method.proofs.RowLaws.{ticket_part, get_or_replicate_same, length_based, based_other, based_listed}
-use Rattle.method.specs.Seen.{IsFree, IsCommitted, num, tick, Has, base}
+use Rattle.method.specs.Seen.{IsFree, IsCommitted, Has}
 use Rattle.invariant.specs.Sound.{Sound}
 use Rattle.invariant.specs.Invariant.{Shape, Invariant}
-use Rattle.invariant.proofs.ChangeLaws.{Changed}
 use Rattle.invariant.proofs.FreeLaws.{Blank, blank_row, blank_left}
 use Rattle.invariant.proofs.BeginLaws.{Fresh, sound_begun}
 use Rattle.invariant.proofs.OrderlyLaws.{orderly_empty, orderly_changed}
 use Rattle.invariant.proofs.ShapeLaws.{shape_set}
-use Rattle.invariant.proofs.KnownLaws.{changed, tick_zero, blank_free, blank_past_end, no_site_free}
+use Rattle.invariant.proofs.KnownLaws.{changed, blank_free, blank_past_end, no_site_free}
 
 -- a table of free slots
 sound_empty : (row : ℕ → Row) (high : ℕ → ℕ) (last : ℕ) → ((i : ℕ) → Blank (row i)) → Sound row high last []

@@ -1,7 +1,7 @@
 -- No two transactions in the table hold the same ticket, over each kind of change. Assumes nothing.
 use mathlib.Core.Path.{◌≡◌, sym}
 use mathlib.Core.Logic.{◌≢◌, ◌⊎◌, inl, inr}
-use Prim.Native.Nat.{ℕ, ◌<◌}
+use Prim.Native.Nat.{ℕ}
 use native.Mathlib.Omega.{arith}
 use Rattle.method.specs.declared.Row.{Row}
 use Rattle.method.specs.Seen.{tick}

@@ -13,15 +13,12 @@ use Rattle.orders.specs.Entries.{Entry}
 use Rattle.sites.specs.Sites.{sites_of}
 use Rattle.sites.proofs.SitesLaws.{lt_of_member}
 use Rattle.method.specs.declared.Ticket.{Ticket}
-use Rattle.method.specs.declared.Stage.{Stage}
 use Rattle.method.specs.declared.State.{State}
 use Rattle.method.specs.declared.Report.{Report}
-use Rattle.method.specs.declared.Step.{Step}
 use Rattle.method.specs.declared.Part.{Part}
 use Rattle.method.specs.declared.Row.{Row}
 use Rattle.method.specs.declared.Table.{Table}
 use Rattle.method.specs.Records.{ticket, past_end, row_at, part_at, high_at, with_row}
-use Rattle.method.specs.Stages.{step_of}
 use Rattle.method.specs.Slots.{slot_of, row_of_number}
 use Rattle.method.specs.Conditions.{Closed, Unknown, NotListed, NoStep, NotAbove, Taken}
 use Rattle.method.specs.Effects.{reported, effect}
@@ -29,8 +26,7 @@ use Rattle.method.specs.Calls.Call.{report_ticket, report_prepared}
 use Rattle.method.proofs.RecordLaws.{never}
 use Rattle.method.proofs.StageLaws.{not_prepared_of_step}
 use Rattle.method.proofs.RowLaws.{ticket_part, reported_same, reported_other, length_reported}
-use Rattle.method.specs.Seen.{IsFree, IsActive, IsCommitted, num, Has, base, tick}
-use Rattle.invariant.specs.Sound.{Sound}
+use Rattle.method.specs.Seen.{IsActive, Has, base, tick}
 use Rattle.invariant.specs.Invariant.{Invariant}
 use Rattle.invariant.proofs.MarkLaws.{Marked, sound_marked}
 use Rattle.invariant.proofs.OrderlyLaws.{orderly_changed}

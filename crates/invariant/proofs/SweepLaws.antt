@@ -1,15 +1,12 @@
 -- A sweep keeps the invariant: it frees committed rows that no active one holds back and that no row that stays has an arrow
 -- to. Assumes nothing.
-use mathlib.Core.Path.{◌≡◌, refl, sym, ap, subst, ◌∙◌}
+use mathlib.Core.Path.{◌≡◌, refl, ◌∙◌}
 use mathlib.Core.Bool.{Bool, true, false, not, ◌&&◌, cond}
-use mathlib.Core.List.{List, map}
+use mathlib.Core.List.{List}
 use mathlib.Core.Logic.{◌⊎◌, inl, inr}
-use Prim.Native.Nat.{ℕ, ◌<◌}
-use native.Mathlib.Omega.{arith}
-use lib.ListN.{length, length-map, get_or-map}
+use Prim.Native.Nat.{ℕ}
+use lib.ListN.{length-map, get_or-map}
 use Rattle.graph.specs.Lists.{◌∈◌}
-use Rattle.graph.specs.Path.{ArrowPath.one}
-use Rattle.graph.specs.Reached.{Reached}
 use Rattle.graph.proofs.TestLaws.{true_or_false, true_not_false}
 use Rattle.graph.proofs.ReachedLaws.{reached_of_next}
 use Rattle.orders.specs.Entries.{Entry}
@@ -19,7 +16,7 @@ use Rattle.method.specs.Records.{free_row, past_end, row_at, high_at, committed,
 use Rattle.method.specs.Slots.{kept, entry_of}
 use Rattle.method.specs.Conditions.{Closed, HeldBack}
 use Rattle.method.specs.Effects.{stays, swept_row, swept_table}
-use Rattle.method.proofs.RecordLaws.{never, committed_iff}
+use Rattle.method.proofs.RecordLaws.{committed_iff}
 use Rattle.method.proofs.SlotLaws.{kept_of_place}
 use Rattle.method.proofs.GraphLaws.{stays_iff}
 use Rattle.method.specs.Seen.{IsCommitted}

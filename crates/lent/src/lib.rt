@@ -2,6 +2,7 @@
 // cannot lend a struct itself, each has a second form that takes the table, lends it for the one call and hands it back.
 // RULES, Calls.
 #![tactic(auto)]
+
 ghost use Rattle.std.specs.Prelude.{◌≡◌};
 ghost use Rattle.method.specs.Calls.Call.{open_with, begin as beginCall, report_ticket, report_prepared, abort as abortCall, decide as decideCall, forget as forgetCall, sweep as sweepCall};
 ghost use Rattle.table.specs.Shut.{answer_to, table_after};

@@ -1,6 +1,7 @@
 // The two requests that ask about the kept rows and leave the table: a proposal and an order. What is said is a value here; the desk
 // writes it as text. RULES, Orders; The service.
 #![tactic(auto)]
+
 ghost use Rattle.std.specs.Prelude.{◌≡◌, cond};
 ghost use Rattle.lines.specs.Line.{Line.say, refused_line};
 ghost use Rattle.method.specs.Conditions.{is_closed};

@@ -1,5 +1,6 @@
 // One message's body on the table: the new table, and its line as a value. RULES, The service.
 #![tactic(auto)]
+
 ghost use Rattle.std.specs.Prelude.{◌≡◌};
 ghost use Rattle.table.specs.Shut.{shut_table};
 ghost use Rattle.queries.specs.Said.{spoken_of};

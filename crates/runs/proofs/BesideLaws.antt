@@ -1,21 +1,20 @@
 -- Who was active when another committed, read off the run: exactly those active now with a number at or below the one that the
 -- commit recorded. Assumes nothing.
 use mathlib.Core.Path.{◌≡◌, refl, sym, ap, subst, ◌∙◌}
-use mathlib.Core.Logic.{◌↔◌, ◌≢◌, ◌⊎◌, inl, inr}
-use Prim.Native.Nat.{ℕ, ◌+◌, ◌≤◌}
+use mathlib.Core.Logic.{◌↔◌, ◌≢◌, inl, inr}
+use Prim.Native.Nat.{ℕ, ◌≤◌}
 use native.Mathlib.Omega.{arith}
 use native.Mathlib.Decide.{ℕ_discrete}
-use Rattle.method.specs.declared.State.{State}
 use Rattle.method.specs.declared.Row.{Row}
 use Rattle.method.specs.declared.Table.{Table}
 use Rattle.method.specs.declared.Answer.{Answer}
-use Rattle.method.specs.Records.{number, free_row, row_at, closed}
-use Rattle.method.specs.Slots.{slot_of, row_of_number}
+use Rattle.method.specs.Records.{number, row_at, closed}
+use Rattle.method.specs.Slots.{slot_of}
 use Rattle.method.specs.Calls.{Call}
-use Rattle.method.specs.Calls.Call.{begin, decide, sweep}
+use Rattle.method.specs.Calls.Call.{decide}
 use Rattle.method.specs.Effects.{new_row, reported, committed_row, step}
 use Rattle.method.proofs.RecordLaws.{never}
-use Rattle.method.specs.Seen.{Active, IsFree, IsActive, IsCommitted, num}
+use Rattle.method.specs.Seen.{IsActive, IsCommitted, num}
 use Rattle.runs.specs.Run.{Run, Run.start, Run.call, after, answer_to, Happened, Commits, CommitsBeside}
 use Rattle.runs.specs.History.{history}
 use Rattle.invariant.proofs.ChangeLaws.{Changed, both, not_committed, not_free}

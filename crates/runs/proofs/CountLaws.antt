@@ -1,14 +1,14 @@
 -- The highest ticket of each site and the last number, read off the run. Assumes nothing.
-use mathlib.Core.Path.{◌≡◌, refl, sym, ap, subst, ◌∙◌}
+use mathlib.Core.Path.{◌≡◌, refl, sym, ap, ◌∙◌}
 use mathlib.Core.List.Memᴰ
 use mathlib.Core.List.Memᴰ.{head as here}
 use mathlib.Core.List.Memᴰ.{tail as behind}
 use mathlib.Core.List.{List, [], ◌∷◌}
-use mathlib.Core.Logic.{◌≢◌, ◌⊎◌, inl, inr}
+use mathlib.Core.Logic.{◌⊎◌, inl, inr}
 use Prim.Native.Nat.{ℕ, zero, suc, ◌+◌, ◌-◌, ◌<◌, ◌≤◌, max}
 use native.Mathlib.Omega.{arith}
 use native.Mathlib.Decide.{dec_le}
-use native.Mathlib.Nat.{not-suc-le-zero, le_of_suc-le-suc, add-zero}
+use native.Mathlib.Nat.{not-suc-le-zero, le_of_suc-le-suc}
 use lib.ListN.{length, get_or}
 use Rattle.graph.specs.Lists.{◌∈◌}
 use Rattle.orders.specs.Arrow.{ticket_at}
@@ -17,7 +17,7 @@ use Rattle.method.specs.declared.Ticket.{Ticket}
 use Rattle.method.specs.declared.Row.{Row}
 use Rattle.method.specs.declared.Table.{Table}
 use Rattle.method.specs.declared.Answer.{Answer}
-use Rattle.method.specs.Records.{number, ticket, row_at, high_at, closed}
+use Rattle.method.specs.Records.{number, ticket, high_at}
 use Rattle.method.specs.Slots.{slot_of, row_of_number, entry_of}
 use Rattle.method.specs.Conditions.{Closed, BadOpening}
 use Rattle.method.specs.Calls.{Call}

@@ -2,7 +2,7 @@
 -- happened before it. Assumes nothing.
 use mathlib.Core.Path.{◌≡◌, refl, sym, ap, ◌∙◌}
 use mathlib.Core.List.{List}
-use mathlib.Core.Logic.{◌↔◌, ◌⊎◌, inl, inr}
+use mathlib.Core.Logic.{◌↔◌, inl, inr}
 use mathlib.Core.Option.{Option, none, some}
 use Prim.Native.Nat.{ℕ}
 use Rattle.method.specs.declared.Report.{Report}
@@ -11,7 +11,7 @@ use Rattle.method.specs.declared.Answer.{Answer}
 use Rattle.method.specs.Calls.{Call}
 use Rattle.method.specs.Calls.Call.{open_with, begin, report_ticket, report_prepared, abort, decide, forget, sweep}
 use Rattle.method.proofs.RecordLaws.{never}
-use Rattle.runs.specs.Run.{Run, Run.start, Run.call, after, answer_to, Happened, Opens, Begins, TakesTicket, report_call, Reports, Commits}
+use Rattle.runs.specs.Run.{Run, Run.start, Run.call, after, answer_to, Happened, TakesTicket, report_call, Reports}
 
 -- which report a call makes, for whom and where
 pub record Told : Type 0 where

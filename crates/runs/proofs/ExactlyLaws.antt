@@ -1,39 +1,36 @@
 -- Decide, forget and sweep do exactly what RULES say, on every table. Assumes nothing.
-use mathlib.Core.Path.{◌≡◌, refl, sym, ap, ◌∙◌}
+use mathlib.Core.Path.{◌≡◌, refl, ap, ◌∙◌}
 use mathlib.Core.Bool.{Bool, true, false, not, ◌&&◌, cond}
 use mathlib.Core.List.{List, [], ◌∷◌, map}
-use mathlib.Core.Logic.{◌↔◌, ◌≢◌, ◌⊎◌, inl, inr}
+use mathlib.Core.Logic.{◌↔◌, ◌⊎◌, inl, inr}
 use Prim.Native.Nat.{ℕ, ◌+◌}
 use native.Mathlib.Omega.{arith}
 use lib.ListN.{length}
-use Rattle.graph.specs.Lists.{◌∈◌, keep}
+use Rattle.graph.specs.Lists.{keep}
 use Rattle.graph.specs.Path.{Cycle}
 use Rattle.graph.specs.Acyclic.{acyclic}
-use Rattle.graph.specs.Reached.{Reached}
-use Rattle.graph.proofs.TestLaws.{true_or_false, true_not_false, false_of_not_true, not_of_true, not_of_false}
+use Rattle.graph.proofs.TestLaws.{true_or_false, false_of_not_true, not_of_true, not_of_false}
 use Rattle.graph.proofs.MemberLaws.{keep_of_true, keep_of_false}
 use Rattle.graph.proofs.AcyclicLaws.{cycle_of_not_acyclic}
 use Rattle.graph.proofs.PathLaws.{cycle_of_weaker}
 use Rattle.graph.proofs.MapLaws.{mapped_cycle_iff}
 use Rattle.orders.specs.Arrow.{Arrow, arrowb}
 use Rattle.orders.proofs.ArrowLaws.{arrowb→arrow}
-use Rattle.method.specs.declared.State.{State}
 use Rattle.method.specs.declared.Row.{Row}
 use Rattle.method.specs.declared.Table.{Table}
 use Rattle.method.specs.declared.Answer.{Answer}
 use Rattle.method.specs.declared.Answered.{Answered}
-use Rattle.method.specs.Records.{number, free_row, row_at, is_free, committed, tickets_of, Goes}
-use Rattle.method.specs.Slots.{slot_of, row_of_number, kept}
+use Rattle.method.specs.Records.{free_row, is_free, committed, tickets_of, Goes}
+use Rattle.method.specs.Slots.{row_of_number, kept}
 use Rattle.method.specs.Conditions.{Closed, Unknown, HasPred, HeldBack}
 use Rattle.method.specs.Calls.{rules, NoneHolds}
-use Rattle.method.specs.Calls.Call.{decide, forget, sweep}
+use Rattle.method.specs.Calls.Call.{decide, forget}
 use Rattle.method.specs.Effects.{answered, decided, freed, stays, swept_row, swept_table, swept_count, effect, step}
 use Rattle.method.proofs.RecordLaws.{never, free_iff, committed_iff}
 use Rattle.method.proofs.CallLaws.{done_exactly, refused_exactly}
-use Rattle.method.proofs.GraphLaws.{no_cycle_iff, stays_iff}
+use Rattle.method.proofs.GraphLaws.{no_cycle_iff}
 use Rattle.runs.specs.Sweeps.{free_slots}
-use Rattle.method.specs.Seen.{IsFree, IsCommitted}
-use Rattle.invariant.proofs.SweepLaws.{kept_of_slot, slot_goes, slot_stays, slot_other}
+use Rattle.method.specs.Seen.{IsCommitted}
 
 -- a decision that nothing refuses
 module _ (t : Table) (n : ℕ) (ok : NoneHolds (rules t (decide n))) where

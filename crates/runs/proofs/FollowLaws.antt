@@ -1,11 +1,8 @@
 -- The table follows the run, and what the paper says of forgetting holds of it. Assumes nothing.
-use mathlib.Core.Path.{◌≡◌, refl, sym, ap, ◌∙◌}
-use mathlib.Core.Bool.{true}
-use mathlib.Core.Logic.{◌↔◌, ◌≢◌, ◌⊎◌, inl, inr}
+use mathlib.Core.Path.{◌≡◌, refl}
+use mathlib.Core.Logic.{◌↔◌, ◌⊎◌, inl, inr}
 use Prim.Native.Nat.{ℕ}
-use native.Mathlib.Decide.{ℕ_discrete}
 use Rattle.method.specs.declared.State.{State}
-use Rattle.method.specs.declared.Row.{Row}
 use Rattle.method.specs.declared.Table.{Table}
 use Rattle.method.specs.Records.{past_end, row_at, active}
 use Rattle.method.specs.Slots.{active_rows}
@@ -16,7 +13,6 @@ use Rattle.method.specs.Seen.{Known, Active, Kept, IsFree, IsActive, IsCommitted
 use Rattle.runs.specs.Run.{Run, after, Happened, Commits, CommitsBeside, Over, BegunIn}
 use Rattle.runs.specs.Follows.{Follows}
 use Rattle.invariant.proofs.ChangeLaws.{not_committed, not_free}
-use Rattle.runs.proofs.HistoryLaws.{invariant-run}
 use Rattle.invariant.proofs.KnownLaws.{known_iff, unknown_of_not_known}
 use Rattle.runs.proofs.PresentLaws.{census, begun_or_not}
 use Rattle.runs.proofs.RowsFollowLaws.{rows_follow_run, begun_of_commit}

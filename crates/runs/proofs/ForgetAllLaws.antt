@@ -1,12 +1,12 @@
 -- A sweep is some forgets one after the other, and leaves none to forget: among the rows that go there is always one that no kept
 -- row has an arrow to, and without it the same others go. Assumes nothing.
 use mathlib.Core.Path.{◌≡◌, refl, sym, ap, subst, ◌∙◌}
-use mathlib.Core.Bool.{Bool, true, false, not}
+use mathlib.Core.Bool.{true, false, not}
 use mathlib.Core.List.Memᴰ
 use mathlib.Core.List.Memᴰ.{head as here}
 use mathlib.Core.List.{List, [], ◌∷◌, map}
-use mathlib.Core.Logic.{◌↔◌, ◌≢◌, ◌⊎◌, inl, inr}
-use Prim.Native.Nat.{ℕ, zero, suc, ◌+◌, ◌<◌}
+use mathlib.Core.Logic.{◌≢◌, ◌⊎◌, inl, inr}
+use Prim.Native.Nat.{ℕ, zero, suc, ◌<◌}
 use native.Mathlib.Omega.{arith}
 use native.Mathlib.Decide.{ℕ_discrete}
 use native.Mathlib.Nat.{not-suc-le-zero, le_of_suc-le-suc}
@@ -18,13 +18,12 @@ use Rattle.graph.specs.Acyclic.{into}
 use Rattle.graph.specs.Reached.{Reached}
 use Rattle.graph.proofs.TestLaws.{true_or_false, true_not_false, false_of_not, not_of_false, same_of_iff}
 use Rattle.graph.proofs.MemberLaws.{any_of_member, kept_of_member, member_of_kept, kept_subset, all_or_one, keep_of_true, keep_of_false}
-use Rattle.graph.proofs.PathLaws.{start_of_path, last_of_path, cycle_of_larger, cycle_of_weaker, path_of_larger}
+use Rattle.graph.proofs.PathLaws.{start_of_path, cycle_of_larger, cycle_of_weaker, path_of_larger}
 use Rattle.graph.proofs.AcyclicLaws.{cycle_of_all_pointed}
 use Rattle.graph.proofs.MapLaws.{mapped_cycle_iff}
 use Rattle.graph.proofs.ReachedLaws.{reached_of_next}
 use Rattle.orders.specs.Entries.{Entry, EntryArrow}
 use Rattle.orders.proofs.OrderLaws.{order_exists_iff_no_cycle}
-use Rattle.method.specs.declared.State.{State}
 use Rattle.method.specs.declared.Row.{Row}
 use Rattle.method.specs.declared.Table.{Table}
 use Rattle.method.specs.declared.Answer.{Answer}
@@ -32,15 +31,15 @@ use Rattle.method.specs.declared.Answered.{Answered}
 use Rattle.method.specs.Records.{free_row, past_end, row_at, is_free, active, committed, with_rows, with_row, Goes, goesb}
 use Rattle.method.specs.Slots.{slot_of, row_of_number, kept, active_rows, entry_of}
 use Rattle.method.specs.Conditions.{Closed, Unknown, HasPred, HeldBack}
-use Rattle.method.specs.Calls.Call.{forget, sweep}
-use Rattle.method.specs.Effects.{answered, freed, stays, swept_row, swept_table, swept_count, step}
+use Rattle.method.specs.Calls.Call.{forget}
+use Rattle.method.specs.Effects.{answered, stays, swept_row, swept_table, swept_count, step}
 use Rattle.method.proofs.RecordLaws.{never, free_iff, active_iff, committed_iff}
 use Rattle.method.proofs.ConditionLaws.{goes_iff}
 use Rattle.method.proofs.SlotLaws.{place_of_kept, kept_of_place}
 use Rattle.method.proofs.GraphLaws.{stays_iff}
-use Rattle.method.specs.Seen.{IsFree, IsActive, IsCommitted, num}
+use Rattle.method.specs.Seen.{IsFree, IsCommitted, num}
 use Rattle.invariant.specs.Invariant.{Invariant}
-use Rattle.runs.specs.Sweeps.{free_slots, ForgetAll, NoneToForget}
+use Rattle.runs.specs.Sweeps.{free_slots, ForgetAll}
 use Rattle.invariant.proofs.ChangeLaws.{Changed}
 use Rattle.invariant.proofs.KnownLaws.{Found, found, known_iff, changed, slot_of_used}
 use Rattle.invariant.proofs.DropLaws.{invariant-forget}

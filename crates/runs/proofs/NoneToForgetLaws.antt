@@ -4,21 +4,17 @@ use mathlib.Core.Bool.{true, false}
 use mathlib.Core.Logic.{◌⊎◌, inl, inr}
 use Prim.Native.Nat.{ℕ}
 use Rattle.graph.specs.Lists.{◌∈◌}
-use Rattle.graph.specs.Path.{ArrowPath}
 use Rattle.graph.specs.Reached.{Reached}
 use Rattle.graph.proofs.TestLaws.{true_or_false}
 use Rattle.graph.proofs.PathLaws.{last_of_path}
-use Rattle.method.specs.declared.State.{State}
 use Rattle.method.specs.declared.Row.{Row}
 use Rattle.method.specs.declared.Table.{Table}
-use Rattle.method.specs.declared.Answer.{Answer}
-use Rattle.method.specs.declared.Answered.{Answered}
-use Rattle.method.specs.Records.{free_row, past_end, row_at, active, committed, Goes}
+use Rattle.method.specs.Records.{past_end, row_at, active, committed, Goes}
 use Rattle.method.specs.Slots.{slot_of, row_of_number, kept, active_rows}
-use Rattle.method.specs.Conditions.{HasPred, HeldBack, MayNotForget}
-use Rattle.method.specs.Calls.{rules, NoneHolds}
+use Rattle.method.specs.Conditions.{HeldBack, MayNotForget}
+use Rattle.method.specs.Calls.{rules}
 use Rattle.method.specs.Calls.Call.{forget}
-use Rattle.method.specs.Effects.{stays, swept_table, effect, step}
+use Rattle.method.specs.Effects.{stays, swept_table, step}
 use Rattle.method.proofs.RecordLaws.{never, active_iff, committed_iff}
 use Rattle.method.proofs.CallLaws.{Steps, Steps.stopped, Steps.passed, step_goes}
 use Rattle.method.proofs.SlotLaws.{place_of_kept, kept_of_place}

@@ -13,7 +13,7 @@ use Rattle.method.specs.Records.{row_at}
 use Rattle.method.specs.Slots.{slot_of, row_of_number}
 use Rattle.method.specs.Conditions.{Closed, Unknown, HasPred, HeldBack}
 use Rattle.method.specs.Calls.{rules}
-use Rattle.method.specs.Calls.Call.{forget, sweep}
+use Rattle.method.specs.Calls.Call.{forget}
 use Rattle.method.specs.Effects.{step}
 use Rattle.method.proofs.RecordLaws.{never}
 use Rattle.method.proofs.CallLaws.{Steps, Steps.stopped, Steps.passed, step_goes}

@@ -12,10 +12,9 @@ use Rattle.orders.specs.Entries.{Entry}
 use Rattle.method.specs.declared.Report.{Report}
 use Rattle.method.specs.declared.Table.{Table}
 use Rattle.method.specs.declared.Answer.{Answer}
-use Rattle.method.specs.Records.{number, row_at}
 use Rattle.method.specs.Slots.{slot_of, row_of_number, entry_of}
 use Rattle.method.specs.Calls.{Call}
-use Rattle.method.specs.Calls.Call.{report_ticket, decide}
+use Rattle.method.specs.Calls.Call.{decide}
 use Rattle.method.specs.Effects.{step}
 use Rattle.method.proofs.RecordLaws.{never}
 use Rattle.runs.specs.Run.{Run, Run.start, Run.call, after, answer_to, Happened, TakesTicket, Commits}

@@ -1,21 +1,18 @@
 -- A row in use is what its reports made it: over a step that does not concern it, and when it has just begun. Assumes nothing.
-use mathlib.Core.Path.{◌≡◌, refl, sym, ap, subst, ◌∙◌}
-use mathlib.Core.Logic.{◌↔◌, ◌≢◌, ◌⊎◌, inl, inr}
-use Prim.Native.Nat.{ℕ, ◌<◌, ◌≤◌, ◌+◌}
+use mathlib.Core.Path.{◌≡◌, ap, ◌∙◌}
+use mathlib.Core.Logic.{inl, inr}
+use Prim.Native.Nat.{ℕ, ◌≤◌, ◌+◌}
 use native.Mathlib.Omega.{arith}
-use native.Mathlib.Decide.{ℕ_discrete}
-use lib.ListN.{length, replicate}
+use lib.ListN.{replicate}
 use Rattle.graph.proofs.TestLaws.{true_not_false}
 use Rattle.graph.proofs.MemberLaws.{member_or_not}
 use Rattle.sites.specs.Sites.{sites_of}
 use Rattle.sites.proofs.SitesLaws.{rising_sites, lt_of_member}
-use Rattle.method.specs.declared.Ticket.{Ticket}
 use Rattle.method.specs.declared.Report.{Report}
 use Rattle.method.specs.declared.Part.{Part}
 use Rattle.method.specs.declared.Row.{Row}
-use Rattle.method.specs.declared.Table.{Table}
 use Rattle.method.specs.declared.Answer.{Answer}
-use Rattle.method.specs.Records.{number, ticket, no_part, row_at, part_at, high_at}
+use Rattle.method.specs.Records.{number, no_part, part_at}
 use Rattle.method.specs.Stages.{first_stage, given}
 use Rattle.method.specs.Calls.{Call}
 use Rattle.method.specs.Calls.Call.{begin}
@@ -23,9 +20,9 @@ use Rattle.method.specs.Effects.{new_row}
 use Rattle.method.proofs.RecordLaws.{never}
 use Rattle.method.proofs.StageLaws.{given_first}
 use Rattle.method.proofs.RowLaws.{ticket_part, get_or_replicate_same, based_other, based_listed}
-use Rattle.method.specs.Seen.{Known, IsActive, IsCommitted, num, Has, base, tick}
+use Rattle.method.specs.Seen.{num, tick}
 use Rattle.runs.specs.Run.{Run, Run.call, after, answer_to, Happened, TakesTicket, Reports, Commits, BegunIn}
-use Rattle.runs.specs.Follows.{BeginsAt, RowFollows}
+use Rattle.runs.specs.Follows.{RowFollows}
 use Rattle.invariant.proofs.OpenLaws.{new_part}
 use Rattle.runs.proofs.EventLaws.{report_of_ticket, happened_map, later_iff}
 
@@ -57,8 +54,11 @@ module _ (r : Run) (c : Call) where
     begun = inl ((e, f), λ s m. (new_part (after r) sites s).1 m);
     tickets = λ s k h. (
       λ p. absurd (omega (arith, p, empty s)),
-      λ y. absurd (elim y [ inl z ↦ never (cc) | inr z ↦ (let m = (after r).last.0 + 1 in
-          omega (arith, low m (br Report.Ticket m s (happened_map {P = TakesTicket m s k} {Q = Reports Report.Ticket m s} (λ t d b x. report_of_ticket t d b m s k x) r z)))) ]),
+      λ y. absurd (elim y [
+        | inl z ↦ never (cc)
+        | inr z ↦ (let m = (after r).last.0 + 1 in
+            omega (arith, low m (br Report.Ticket m s (happened_map {P = TakesTicket m s k} {Q = Reports Report.Ticket m s} (λ t d b x. report_of_ticket t d b m s k x) r z))))
+      ]),
     );
     reports = λ s p. (
       λ g. absurd (true_not_false g (ap (given p) (fresh s) ∙ given_first p)),

@@ -1,9 +1,8 @@
 -- A row that a report or a commit changed is what its reports made it. Assumes nothing.
 use mathlib.Core.Path.{◌≡◌, refl, sym, ap, subst, ◌∙◌}
 use mathlib.Core.Bool.{true, false, ◌||◌}
-use mathlib.Core.Logic.{◌↔◌, ◌≢◌, ◌⊎◌, inl, inr}
+use mathlib.Core.Logic.{◌↔◌, ◌≢◌, inl, inr}
 use Prim.Native.Nat.{ℕ, ◌<◌}
-use native.Mathlib.Omega.{arith}
 use native.Mathlib.Decide.{ℕ_discrete}
 use lib.ListN.{length}
 use Rattle.graph.proofs.TestLaws.{true_not_false, or_of_left, or_of_right, either_of_or}
@@ -15,10 +14,10 @@ use Rattle.method.specs.declared.Part.{Part}
 use Rattle.method.specs.declared.Row.{Row}
 use Rattle.method.specs.declared.Table.{Table}
 use Rattle.method.specs.declared.Answer.{Answer}
-use Rattle.method.specs.Records.{number, ticket, part, no_part, part_at, high_at, tickets_of}
+use Rattle.method.specs.Records.{number, no_part, part_at, tickets_of}
 use Rattle.method.specs.Stages.{step_of, stage_to, given}
 use Rattle.method.specs.Calls.{Call}
-use Rattle.method.specs.Calls.Call.{report_ticket, report_prepared, decide}
+use Rattle.method.specs.Calls.Call.{report_ticket, decide}
 use Rattle.method.specs.Effects.{reported, committed_row}
 use Rattle.method.proofs.RecordLaws.{never}
 use Rattle.method.proofs.StageLaws.{same, same_iff, given_new, given_step}
@@ -26,7 +25,6 @@ use Rattle.method.proofs.RowLaws.{ticket_part, reported_same, reported_other}
 use Rattle.runs.specs.Run.{Run, Run.call, after, answer_to, Happened, TakesTicket, report_call, Reports, Commits}
 use Rattle.method.specs.Seen.{IsActive, IsCommitted, num, Has, base, tick}
 use Rattle.runs.specs.Follows.{BeginsAt, RowFollows}
-use Rattle.invariant.proofs.ChangeLaws.{not_committed}
 use Rattle.runs.proofs.EventLaws.{Told, same_told, report_of_ticket, happened_map, later_iff}
 use Rattle.runs.proofs.StepLaws.{brought}
 

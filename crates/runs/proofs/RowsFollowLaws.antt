@@ -1,13 +1,12 @@
 -- Every row in use is what its reports made it, after every run. Assumes nothing.
 use mathlib.Core.Path.{◌≡◌, refl, sym, ap, subst, ◌∙◌}
-use mathlib.Core.Logic.{◌↔◌, ◌≢◌, ◌⊎◌, inl, inr}
-use Prim.Native.Nat.{ℕ, ◌≤◌}
-use Rattle.method.specs.declared.Number.{Number}
+use mathlib.Core.Logic.{◌≢◌, inl, inr}
+use Prim.Native.Nat.{ℕ}
 use Rattle.method.specs.declared.Report.{Report}
 use Rattle.method.specs.declared.Row.{Row}
 use Rattle.method.specs.declared.Table.{Table}
 use Rattle.method.specs.declared.Answer.{Answer}
-use Rattle.method.specs.Records.{number, free_row, closed, row_at}
+use Rattle.method.specs.Records.{number, closed, row_at}
 use Rattle.method.specs.Slots.{slot_of, row_of_number}
 use Rattle.method.specs.Calls.{Call}
 use Rattle.method.specs.Calls.Call.{decide}
@@ -17,13 +16,13 @@ use Rattle.method.specs.Seen.{IsFree, IsActive, num, Known}
 use Rattle.runs.specs.Run.{Run, Run.start, Run.call, after, answer_to, Happened, report_call, Reports, Commits, BegunIn}
 use Rattle.runs.specs.History.{history}
 use Rattle.runs.specs.Follows.{RowFollows}
-use Rattle.invariant.proofs.ChangeLaws.{Changed, every, not_free}
+use Rattle.invariant.proofs.ChangeLaws.{every, not_free}
 use Rattle.invariant.proofs.OpenLaws.{invariant-closed, free_after_open}
 use Rattle.runs.proofs.HistoryLaws.{invariant-run}
 use Rattle.runs.proofs.StepLaws.{Change, Change.refuses, Change.opens, Change.begins, Change.reports, Change.commits, Change.clears}
 use Rattle.invariant.proofs.StandingLaws.{closed_free, one_slot}
 use Rattle.runs.proofs.EventLaws.{Told, same_told, no_report_open}
-use Rattle.runs.proofs.PresentLaws.{change_of_run, Census, census}
+use Rattle.runs.proofs.PresentLaws.{change_of_run, census}
 use Rattle.runs.proofs.RowFollowLaws.{Silent, row_silent, row_begun}
 use Rattle.runs.proofs.RowReportLaws.{row_reported, row_committed}
 

@@ -5,15 +5,13 @@ use mathlib.Core.Path.{◌≡◌, refl, sym, ap, subst, ◌∙◌}
 use mathlib.Core.Bool.{Bool, true, false}
 use mathlib.Core.List.{List, ◌∷◌, map}
 use mathlib.Core.Logic.{◌≢◌, ◌⊎◌, inl, inr}
-use Prim.Native.Nat.{ℕ, ◌+◌, ◌<◌, ◌≤◌, max}
+use Prim.Native.Nat.{ℕ, ◌+◌, ◌<◌, max}
 use native.Mathlib.Omega.{arith}
 use native.Mathlib.Decide.{ℕ_discrete}
 use lib.ListN.{length}
-use Rattle.graph.specs.Lists.{◌∈◌}
 use Rattle.graph.specs.Acyclic.{acyclic}
 use Rattle.orders.specs.Arrow.{arrowb}
 use Rattle.orders.specs.Entries.{Entry}
-use Rattle.method.specs.declared.Number.{Number}
 use Rattle.method.specs.declared.Ticket.{Ticket}
 use Rattle.method.specs.declared.Stage.{Stage}
 use Rattle.method.specs.declared.Report.{Report}
@@ -36,7 +34,7 @@ use Rattle.method.proofs.StageLaws.{to_of_step}
 use Rattle.method.proofs.CallLaws.{Steps, Steps.stopped, Steps.passed, step_goes, done_exactly}
 use Rattle.invariant.specs.Invariant.{Invariant}
 use Rattle.invariant.specs.Noted.{noted}
-use Rattle.invariant.proofs.ChangeLaws.{Changed, not_free}
+use Rattle.invariant.proofs.ChangeLaws.{Changed}
 use Rattle.invariant.proofs.KnownLaws.{found, changed}
 use Rattle.invariant.proofs.StandingLaws.{one_slot}
 use Rattle.invariant.proofs.InvariantLaws.{closed_of_not_not}

@@ -27,4 +27,4 @@ pub slice_bounds-check-end : goal.slice_bounds-check-end
 slice_bounds-check-end c = sym (length-take-le _ _ (omega (arith, few ((goal.at.slice_bounds-check-end c).After-kept_rows-k), whole ((goal.at.slice_bounds-check-end c).After-kept_rows-k))))
 
 pub returns : goal.returns
-returns c =     let k = c.kept_rows-k in record { answer = checked _ _ k.ensures.answer k.ensures.whole _ _ _ c.check.ensures.answer refl }
+returns c = let k = c.kept_rows-k in record { answer = checked _ _ k.ensures.answer k.ensures.whole _ _ _ c.check.ensures.answer refl }

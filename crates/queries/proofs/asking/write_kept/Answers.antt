@@ -27,7 +27,7 @@ pub slice_bounds-write-end : goal.slice_bounds-write-end
 slice_bounds-write-end c = sym (length-take-le _ _ (omega (arith, few ((goal.at.slice_bounds-write-end c).After-kept_rows-kept), whole ((goal.at.slice_bounds-write-end c).After-kept_rows-kept))))
 
 pub returns : goal.returns
-returns c =     let e = c.kept_rows-kept.ensures in
+returns c = let e = c.kept_rows-kept.ensures in
     let w = written _ _ e.answer e.whole _ _ _ _ _ (c.write.ensures.answer, c.write.ensures.buffer) refl refl in
     record {
       answer = w.0;
