@@ -3,7 +3,7 @@
 import sys,runpy,re,os
 sys.argv=[sys.argv[0]]+sys.argv[1:]
 crate,fn=sys.argv[1:3]
-src=open('/work/tools/go.py').read()
+src=open(os.path.join(os.path.dirname(os.path.abspath(__file__)),'go.py')).read()
 a=src.index('def lts_info'); b=src.index('def find(')
 ns={'re':re,'os':os,'crate':crate}
 exec(src[a:b],ns)

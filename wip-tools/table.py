@@ -1,5 +1,5 @@
 import os,shutil
-w='/work/w19/crates/'
+w=os.path.join(os.getcwd(),'crates')+'/'
 CALLS=[
  ("open_with","first: Number, floors: &[u32]","first, floors","openings","(openWith (first .0) (now (floors .entry)))",""),
  ("begin","sites: u8","sites","beginnings","(beginCall sites)","// `sites` is a set of sites, site 0 its lowest bit.\n"),

@@ -1,5 +1,5 @@
-import sys
-sys.path.insert(0,'/work/gen')
+import os,sys
+sys.path.insert(0,os.path.dirname(os.path.abspath(__file__)))
 PATH="mathlib.Core.Path.{_≡_, refl, sym, ap, _∙_}"
 calls={"open_with":("openWith","openWith (c @args .first .0) (c @args .floors .now)"),"begin":("begin","begin (c @args .sites)"),"report_ticket":("reportTicket","reportTicket (c @args .n .0) (c @args .s) (c @args .k .0)"),"report_prepared":("reportPrepared","reportPrepared (c @args .n .0) (c @args .s)"),"abort":("abort","abort (c @args .n .0)"),"decide":("decide","decide (c @args .n .0)"),"forget":("forget","forget (c @args .n .0)"),"sweep":("sweep","sweep")}
 PROOFS={}

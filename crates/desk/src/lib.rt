@@ -1,5 +1,6 @@
 // The desk: one message's body on the table, to the new table and its line as text. RULES, The service.
 #![tactic(auto)]
+
 ghost use Rattle.std.specs.Prelude.{◌≡◌};
 ghost use Rattle.desk.specs.Served.{served_table, served_count, served_out};
 ghost use Rattle.table.specs.Shut.{shut_table};

@@ -13,7 +13,7 @@ use mathlib.Core.Option.{Option, none, some}
 use Rattle.wire.specs.Message.{Message}
 use Rattle.wire.specs.Body.{message_of}
 use Rattle.frames.specs.Stream.{Stream, ended, cut_off, framed}
-use Rattle.lines.specs.Line.{Line, refused_line}
+use Rattle.lines.specs.Line.{refused_line}
 use Rattle.method.specs.Slots.{kept_entries, kept_flat}
 use Rattle.method.specs.Calls.{call_refusals}
 use Rattle.runs.specs.Run.{Run, Run.call, after}

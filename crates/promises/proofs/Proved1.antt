@@ -27,13 +27,12 @@ use Rattle.frames.proofs.StreamLaws.{stream_of_nothing, stream_of_cut, stream_of
 use Rattle.wire.proofs.MeaningLaws.{body_means, body_of_means, read_means, read_of_means}
 use Rattle.frames.proofs.AnswerLaws.{frame_means, frame_of_means}
 use Rattle.sending.proofs.MeaningLaws.{write_means, write_of_means}
-use Rattle.lines.specs.Line.{Line, refused_line}
+use Rattle.lines.specs.Line.{refused_line}
 use Rattle.lines.proofs.LineLaws.{one_line}
 use Rattle.lines.proofs.ReadingLaws.{output_bytes_injective}
 use Rattle.method.specs.declared.Table as method
 use Rattle.method.specs.Calls.{Call}
 use Rattle.method.specs.Calls.Call.{open_with, begin, report_ticket, report_prepared, abort, decide, forget, sweep}
-use Rattle.method.specs.Effects.{step}
 use Rattle.method.proofs.RecordLaws.{never}
 use Rattle.method.proofs.CallLaws.{refused_keeps as step_Keeps, refused_exactly as step-refused}
 use Rattle.runs.proofs.FollowLaws.{follows, unknown_iff_over}

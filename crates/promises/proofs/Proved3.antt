@@ -9,7 +9,7 @@ use Rattle.orders.specs.Entries.{entries_in}
 use Rattle.orders.specs.Good.{GoodRows}
 use Rattle.orders.specs.Order.{InOrder}
 use Rattle.orders.specs.Reply.{Reply, check_reply, write_reply}
-use Rattle.orders.specs.Write.{Written, Written.bad, Written.no_room, Written.no_order}
+use Rattle.orders.specs.Write.{Written}
 use Rattle.orders.specs.CCall.{GoodBytes, OrderBytes, call_result}
 use Rattle.orders.specs.declared.CheckAnswer.{CheckAnswer}
 use Rattle.orders.specs.declared.WriteAnswer.{WriteAnswer}

@@ -1,6 +1,6 @@
 -- Demand 3: an order is accepted exactly by the rule, our writer gives one whenever one exists and there is room, and for every sequence
 -- of calls an order exists for all committed since the opening, forgotten ones too. proofs/Proved3.antt has a proof of each.
-use Rattle.std.specs.Prelude.{◌≡◌, List, ◌∷◌, ◌++◌, ◌↔◌, ℕ, ◌+◌, ◌<◌, ◌≤◌, length, take, drop}
+use Rattle.std.specs.Prelude.{◌≡◌, List, ◌∷◌, ◌++◌, ◌↔◌, ℕ, ◌+◌, ◌<◌, length, take, drop}
 use Rattle.graph.specs.Lists.{◌∈◌}
 use Rattle.graph.specs.Smallest.{SmallestFirst}
 use Rattle.orders.specs.Arrow.{ticket_at}
@@ -11,7 +11,6 @@ use Rattle.orders.specs.Write.{Room}
 use Rattle.orders.specs.CCall.{GoodBytes, OrderBytes}
 use Rattle.orders.specs.declared.CheckAnswer.{CheckAnswer}
 use Rattle.orders.specs.declared.WriteAnswer.{WriteAnswer}
-use Rattle.method.specs.declared.Table as method
 use Rattle.method.specs.Records.{closed}
 use Rattle.method.specs.Slots.{kept_entries, kept_flat}
 use Rattle.method.specs.Conditions.{Closed}

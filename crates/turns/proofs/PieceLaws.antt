@@ -2,11 +2,11 @@
 use mathlib.Core.Path.{◌≡◌, refl, sym, ◌∙◌, ap}
 use mathlib.Core.Bool.{Bool, true, false, cond, ◌&&◌, true≢false}
 use mathlib.Core.List.{List, [], ◌∷◌, ◌++◌, append_assoc, append-nil}
-use Prim.Native.Nat.{ℕ, zero, suc, ◌+◌, ◌-◌}
+use Prim.Native.Nat.{ℕ, ◌+◌, ◌-◌}
 use native.Mathlib.Omega.{arith}
 use lib.ListN.{length, drop}
 use lib.Seq.{drop-drop, drop_at}
-use Rattle.lines.specs.Line.{Line, line_bytes, refused_line}
+use Rattle.lines.specs.Line.{line_bytes}
 use Rattle.lines.specs.Reading.{output_bytes}
 use Rattle.frames.specs.Stream.{Stream, ended, cut_off, framed, stream_of, continued, bytes_of, WellFormed}
 use Rattle.frames.specs.Frame.{frame_of}

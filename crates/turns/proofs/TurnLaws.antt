@@ -1,17 +1,17 @@
 -- A turn, message by message: what has been answered, and what the rest of the turn is. Assumes nothing.
 use mathlib.Core.Path.{◌≡◌, refl, sym, ◌∙◌, ap, subst}
 use mathlib.Core.Bool.{Bool, true, false, cond, not, ◌&&◌}
-use mathlib.Core.List.{List, [], ◌∷◌, ◌++◌, append_assoc, append-nil}
+use mathlib.Core.List.{List, [], ◌++◌, append_assoc, append-nil}
 use mathlib.Core.Logic.{◌⊎◌, inl, inr}
 use Prim.Native.Nat.{ℕ, ◌+◌, ◌-◌, ◌<◌, ◌≤◌}
 use native.Mathlib.Nat.{add-zero, zero-add, add_assoc, sub-zero}
 use native.Mathlib.Omega.{arith}
-use lib.Dec.{leb, eqb}
-use lib.ListN.{length, drop, take, length-append, length-drop}
+use lib.Dec.{eqb}
+use lib.ListN.{length, drop, length-append, length-drop}
 use lib.Seq.{drop-drop}
 use borrow.Author.Tests.{le-leb, lt-leb, ne_eqb}
 use Rattle.endian.specs.Laid.{laid}
-use Rattle.endian.proofs.LaidLaws.{laid_of_laid, length_laid}
+use Rattle.endian.proofs.LaidLaws.{laid_of_laid}
 use Rattle.lines.specs.Line.{line_bytes}
 use Rattle.frames.specs.Frame.{nothing, cut, frame_of, next_frame, body_to, EndsAt}
 use Rattle.frames.specs.Stream.{Stream, ended, cut_off, framed, bytes_of, stream_of}
@@ -26,7 +26,7 @@ use Rattle.table.specs.Shut.{shut_table}
 use Rattle.turns.specs.declared.Turn.{Turn}
 use Rattle.turns.specs.Struct.{turn_of}
 use Rattle.turns.proofs.RoomLaws.{laid_fits}
-use Rattle.turns.specs.Turn.{Turned, turned, turn, roomy, stops, ends, behind, eleven}
+use Rattle.turns.specs.Turn.{Turned, turn, roomy, stops, ends, behind, eleven}
 
 -- how a turn goes on, by what stands in front
 module _ (last : Bool) (t : Table) (left : ℕ) where

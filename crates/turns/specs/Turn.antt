@@ -1,7 +1,7 @@
 -- One turn: the whole messages at hand are answered into a buffer, as far as it has room. RULES, The service. `left` is the room; a message
 -- whose line might not fit, the longest line being 358 bytes, is not touched. `last` says that no more input comes.
 use Rattle.std.specs.Prelude.{Bool, true, false, cond, ◌&&◌, List, [], ◌++◌, ℕ, ◌+◌, ◌-◌, leb, length}
-use Rattle.lines.specs.Line.{Line, line_bytes, refused_line}
+use Rattle.lines.specs.Line.{line_bytes, refused_line}
 use Rattle.frames.specs.Stream.{Stream, ended, cut_off, framed}
 use Rattle.method.specs.declared.Table.{Table}
 use Rattle.replies.specs.Desk.{desk_body}

@@ -1,5 +1,6 @@
 // One turn of the service: the whole messages at hand are answered into a lent buffer, one line each. RULES, The service.
 #![tactic(auto)]
+
 ghost use Rattle.std.specs.Prelude.{◌≡◌, true, ◌+◌, ◌≤◌, length};
 ghost use Rattle.endian.specs.Laid.{laid};
 ghost use Rattle.frames.specs.Stream.{stream_of};

@@ -3,6 +3,7 @@
 // calls of `lent` on a lent table have no such caller, since a function that hands a reference to a struct on is not covered; the
 // eight of `lends` rest on them.
 #![tactic(auto)]
+
 mod calls;
 mod checks;
 mod lends;

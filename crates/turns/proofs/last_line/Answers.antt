@@ -1,10 +1,8 @@
 -- `turns::last_line` meets its contract. Assumes nothing.
-use mathlib.Core.Path.{◌≡◌, sym, ◌∙◌, ap}
+use mathlib.Core.Path.{◌≡◌, ◌∙◌, ap}
 use mathlib.Core.List.{List}
-use Prim.Native.Nat.{ℕ, ◌+◌, ◌≤◌, ◌^◌}
-use native.Mathlib.Omega.{arith}
+use Prim.Native.Nat.{ℕ, ◌+◌, ◌≤◌}
 use lib.ListN.{length}
-use borrow.Author.Rules.{rules}
 use Rattle.endian.specs.Laid.{laid}
 use Rattle.turns.specs.Turn.{eleven}
 use Rattle.turns.specs.Struct.{turn_of}
@@ -33,7 +31,7 @@ module _ (c : After-slice_known-2-1) where
   buffer = c.write_line-n.ensures.buffer ∙ (eleven_room out place room).1
 
 pub returns : goal.returns
-returns c =     let a = c.args in
+returns c = let a = c.args in
     record {
       answer = ap (λ n. turn_of a.table a.used (a.written + n) true) (count ((goal.at.returns c).After-slice_known-2-1));
       buffer = buffer ((goal.at.returns c).After-slice_known-2-1);

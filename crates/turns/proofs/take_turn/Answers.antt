@@ -7,7 +7,6 @@ use Prim.Native.Nat.{ℕ, ◌+◌, ◌-◌, ◌^◌, ◌<◌, ◌≤◌}
 use native.Mathlib.Omega.{arith}
 use lib.Dec.{eqb}
 use lib.ListN.{length, take, drop, length-drop}
-use borrow.Author.Rules.{rules}
 use Rattle.endian.proofs.PartLaws.{part_is}
 use Rattle.endian.specs.Laid.{laid}
 use Rattle.frames.specs.Frame.{next_frame, body_to, EndsAt}

@@ -1,7 +1,6 @@
 -- `desk::said::say` meets its contract: what the code can say has room in 358 bytes. Assumes nothing.
 use mathlib.Core.Path.{◌≡◌, sym, ◌∙◌}
 use Prim.Native.Nat.{◌^◌}
-use borrow.Author.Rules.{rules}
 use Rattle.endian.specs.Places.{Below}
 use Rattle.endian.proofs.BelowLaws.{below_of_get_or}
 use Rattle.lines.specs.Line.{InRange}
@@ -19,13 +18,13 @@ found c x e =
     in_range c.args.numbers.now b c.requires.0 c.args.said x e c.well_formed.0
 
 pub returns-in-Words : goal.returns-in-Words
-returns-in-Words c =     let e = c.in-Words.is in
+returns-in-Words c = let e = c.in-Words.is in
     let w = c.write_line in
     let r = written_of_358 c.args.out.now c.args.place (said_line (Said.Words c.in-Words.w) c.args.numbers.now) (found ((goal.at.returns-in-Words c).After-slice_known-1) _ e) c.requires.1 in
     record { answer = rw e (w.ensures.answer ∙ sym r.0); buffer = rw e (w.ensures.buffer ∙ sym r.1) }
 
 pub returns-in-Order : goal.returns-in-Order
-returns-in-Order c =     let e = c.in-Order.is in
+returns-in-Order c = let e = c.in-Order.is in
     let w = c.write_order in
     let r = written_of_358 c.args.out.now c.args.place (said_line (Said.Order c.in-Order.n) c.args.numbers.now) (found ((goal.at.returns-in-Order c).After-slice_known-1) _ e) c.requires.1 in
     record { answer = rw e (w.ensures.answer ∙ sym r.0); buffer = rw e (w.ensures.buffer ∙ sym r.1) }
