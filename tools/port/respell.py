@@ -96,7 +96,7 @@ def plan():
         words.update(TOKEN.findall(text))
     for p in rust():
         words.update(TOKEN.findall(code(read(p))))
-    names = {n: snake(n) for n in declared if n not in goals and snake(n) != n and not n.startswith(("invariant-", "decreases-"))}
+    names = {n: snake(n) for n in declared if n not in goals and snake(n) != n}
     taken = collections.Counter(names.values())
     clash = sorted(n for n, s in names.items() if taken[s] > 1)
     for p in antt() + rust():

@@ -40,7 +40,7 @@ use Rattle.invariant.proofs.CommitLaws.{Sealed, sound_committed}
 use Rattle.invariant.proofs.OrderlyLaws.{orderly_changed}
 use Rattle.invariant.proofs.ShapeLaws.{shape_set}
 use Rattle.invariant.proofs.KnownLaws.{found, changed, keeps_kept}
-use Rattle.invariant.proofs.DropLaws.{invariant-freed}
+use Rattle.invariant.proofs.DropLaws.{invariant_freed}
 
 -- no cycle of the rows is no cycle of their entries
 entries_acyclic : (rs : List Row) → ¬ Cycle Goes rs → ¬ Cycle EntryArrow (map entry_of rs)
@@ -123,9 +123,9 @@ module _ (t : Table) (es : List Entry) (v : Invariant t es) (n : ℕ) (nc : ¬ C
         subst (Differs q) e (v.orderly at j (λ x. not_committed is_active_lem (rw x k)));
   }
 
-  pub invariant-commit : Fits t q → Invariant (decided t n true).table (entry_of q ∷ es)
+  pub invariant_commit : Fits t q → Invariant (decided t n true).table (entry_of q ∷ es)
   unfolding decided committed_row entry_of kept
-  invariant-commit fits = record {
+  invariant_commit fits = record {
     shape = shape_set t (decided t n true).table at (committed_row t q) v.shape slot refl refl (length_raised q (sites_of q.sites) t.high ∙ v.shape.highs)
         (v.shape.parts at (omega (arith, slot, v.shape.slots))) (λ f. never (cc)) (v.shape.own at);
     sound = sound_committed (changed t at (committed_row t q) slot) t.last.0 sealed (map entry_of (kept t)) (keeps_kept t)
@@ -135,6 +135,6 @@ module _ (t : Table) (es : List Entry) (v : Invariant t es) (n : ℕ) (nc : ¬ C
     shut = λ c. absurd (nc c);
   }
 
-  pub invariant-cycle : Invariant (decided t n false).table es
+  pub invariant_cycle : Invariant (decided t n false).table es
   unfolding decided
-  invariant-cycle = invariant-freed t es at v nc slot (λ c. absurd (not_committed is_active_lem c))
+  invariant_cycle = invariant_freed t es at v nc slot (λ c. absurd (not_committed is_active_lem c))

@@ -34,9 +34,9 @@ past_of_loose row high last es v i c late j u = record {
     two a e = not_committed a (subst (λ (k : ℕ). IsCommitted (row k)) (sym e) c)
 
 -- one slot freed
-pub invariant-freed : (t : Table) (es : List Entry) (i : ℕ) → Invariant t es → ¬ Closed t → i < length t.rows
+pub invariant_freed : (t : Table) (es : List Entry) (i : ℕ) → Invariant t es → ¬ Closed t → i < length t.rows
     → (IsCommitted (row_at t i) → (j : ℕ) → j ≢ i → Past (entry_of (row_at t i)) (row_at t j)) → Invariant (with_row t i free_row) es
-invariant-freed t es i v nc h past = record {
+invariant_freed t es i v nc h past = record {
   shape = shape_set t (with_row t i free_row) i free_row v.shape h refl refl v.shape.highs refl (λ f. refl) (λ s m. absurd (no_site_free s m));
   sound = sound_freed (row_at t) (row_at (with_row t i free_row)) free lost (high_at t) t.last.0 es v.sound;
   orderly = orderly_freed (row_at t) (row_at (with_row t i free_row)) free v.orderly;
@@ -56,10 +56,10 @@ invariant-freed t es i v nc h past = record {
       | inr e ↦ inl e.1
     ]
 
-pub invariant-abort : (t : Table) (es : List Entry) (n : ℕ) → Invariant t es → ¬ Closed t → ¬ Unknown t n → ¬ ¬ IsActive (row_of_number t n) → Invariant (freed t n) es
-invariant-abort t es n v nc nu na = invariant-freed t es (slot_of t n) v nc (found t n nu).slot (λ c. absurd (na (λ a. not_committed a c)))
+pub invariant_abort : (t : Table) (es : List Entry) (n : ℕ) → Invariant t es → ¬ Closed t → ¬ Unknown t n → ¬ ¬ IsActive (row_of_number t n) → Invariant (freed t n) es
+invariant_abort t es n v nc nu na = invariant_freed t es (slot_of t n) v nc (found t n nu).slot (λ c. absurd (na (λ a. not_committed a c)))
 
-pub invariant-forget : (t : Table) (es : List Entry) (n : ℕ) → Invariant t es → ¬ Closed t → ¬ Unknown t n → ¬ MayNotForget t (row_of_number t n) → Invariant (freed t n) es
-invariant-forget t es n v nc nu nf = invariant-freed t es (slot_of t n) v nc (found t n nu).slot
+pub invariant_forget : (t : Table) (es : List Entry) (n : ℕ) → Invariant t es → ¬ Closed t → ¬ Unknown t n → ¬ MayNotForget t (row_of_number t n) → Invariant (freed t n) es
+invariant_forget t es n v nc nu nf = invariant_freed t es (slot_of t n) v nc (found t n nu).slot
     (λ c j d. past_of_loose (row_at t) (high_at t) t.last.0 es v.sound (slot_of t n) c
     (later_of_free t (row_of_number t n) (λ h. nf (inr h))) j (unpointed_of_free t (row_of_number t n) (λ h. nf (inl h)) j))

@@ -74,8 +74,8 @@ module _ (t : Table) (free : t.rows ≡ replicate 32 free_row) where
       none i u (yes l) m = no_site_free u (rw (free_slot_lem i l) at m)
       none i u (no l) m = no_site_free u (rw (past_slot i (omega arith)) at m)
 
-pub invariant-closed : Invariant closed []
-invariant-closed = record { shape = shape_empty closed refl refl (omega arith); sound = sound_empty (row_at closed) (high_at closed) 0 (all_blank closed refl); orderly = orderly_empty (row_at closed) (all_blank closed refl); shut = λ c. (refl, refl) }
+pub invariant_closed : Invariant closed []
+invariant_closed = record { shape = shape_empty closed refl refl (omega arith); sound = sound_empty (row_at closed) (high_at closed) 0 (all_blank closed refl); orderly = orderly_empty (row_at closed) (all_blank closed refl); shut = λ c. (refl, refl) }
 
 length_padded : (k : ℕ) (fs : List ℕ) → length (padded k fs) ≡ k
 unfolding padded
@@ -83,9 +83,9 @@ length_padded zero fs = refl
 length_padded (suc k) [] = ap suc (length_padded k [])
 length_padded (suc k) (f ∷ fs) = ap suc (length_padded k fs)
 
-pub invariant-open : (t : Table) (es : List Entry) (first : ℕ) (floors : List ℕ) → Invariant t es → Closed t → ¬ BadOpening first floors → Invariant (opened first floors) es
+pub invariant_open : (t : Table) (es : List Entry) (first : ℕ) (floors : List ℕ) → Invariant t es → Closed t → ¬ BadOpening first floors → Invariant (opened first floors) es
 unfolding opened
-invariant-open t es first floors v c b = subst (Invariant (opened first floors)) (sym (v.shut c).0) (record {
+invariant_open t es first floors v c b = subst (Invariant (opened first floors)) (sym (v.shut c).0) (record {
   shape = shape_empty (opened first floors) refl (length_padded 8 floors) few;
   sound = sound_empty (row_at (opened first floors)) (high_at (opened first floors)) _ (all_blank (opened first floors) refl);
   orderly = orderly_empty (row_at (opened first floors)) (all_blank (opened first floors) refl);
@@ -134,9 +134,9 @@ begin_slot t nf =
     let (h, f) = first_found (λ (r : Row). is_free r.state) t.rows past_end e in
     (h, (free_iff (row_at t (free_slot t)).state).0 f)
 
-pub invariant-begin : (t : Table) (es : List Entry) (sites : ℕ) → Invariant t es → ¬ Closed t → ¬ BadSites t sites → ¬ Full t → Invariant (effect t (begin sites)).table es
+pub invariant_begin : (t : Table) (es : List Entry) (sites : ℕ) → Invariant t es → ¬ Closed t → ¬ BadSites t sites → ¬ Full t → Invariant (effect t (begin sites)).table es
 unfolding effect new_row
-invariant-begin t es sites v nc bs nf = record {
+invariant_begin t es sites v nc bs nf = record {
   shape = shape_set t (with_row (with_last t (number (t.last.0 + 1))) (free_slot t) (new_row t sites)) (free_slot t) (new_row t sites) v.shape slot refl refl v.shape.highs
       (new_length t sites) (λ f. never (cc)) (λ s m. own s m (dec_lt s t.sites));
   sound = sound_begun (changed t (free_slot t) (new_row t sites) slot) unused (high_at t) t.last.0 (fresh t sites) es v.sound;

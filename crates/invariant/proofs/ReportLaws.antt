@@ -103,9 +103,9 @@ module _ (t : Table) (es : List Entry) (v : Invariant t es) (n s : ℕ) (p : Rep
       go State.Active e = e
       go State.Committed e = absurd (not_prepared_of_step (part_at q s).stage p ns ((v.sound.rows at).prepared e s has))
 
-  invariant-report : (k : Ticket) → New q s k.0 → (k.0 ≡ tick q s) ⊎ ((j : ℕ) → j ≢ at → k.0 ≢ tick (row_at t j) s) → Invariant (with_row t at (reported q s p k)) es
+  invariant_report : (k : Ticket) → New q s k.0 → (k.0 ≡ tick q s) ⊎ ((j : ℕ) → j ≢ at → k.0 ≢ tick (row_at t j) s) → Invariant (with_row t at (reported q s p k)) es
   unfolding reported
-  invariant-report k new alone = record {
+  invariant_report k new alone = record {
     shape = shape_set t (with_row t at (reported q s p k)) at (reported q s p k) v.shape slot refl refl v.shape.highs
         (length_reported q s p k ∙ v.shape.parts at (omega (arith, slot, v.shape.slots))) (λ f. let a = is_active_lem in never (cc)) (v.shape.own at);
     sound = sound_marked (changed t at (reported q s p k) slot) (marked (row_at t) at s p k inside new is_active_lem) (high_at t) t.last.0 es v.sound;
@@ -120,11 +120,11 @@ above_base q s k n = go (dec_le k (base q s))
     go (yes l) = absurd (n l)
     go (no l) = omega arith
 
-pub invariant-ticket : (t : Table) (es : List Entry) (n s k : ℕ) → Invariant t es → ¬ Closed t → ¬ Unknown t n → ¬ NotListed (row_of_number t n) s
+pub invariant_ticket : (t : Table) (es : List Entry) (n s k : ℕ) → Invariant t es → ¬ Closed t → ¬ Unknown t n → ¬ NotListed (row_of_number t n) s
     → ¬ NoStep (row_of_number t n) s Report.Ticket → ¬ NotAbove (row_of_number t n) s k → ¬ Taken t n s k → Invariant (effect t (report_ticket n s k)).table es
 unfolding effect
-invariant-ticket t es n s k v nc nu nl ns na nt =
-    invariant-report t es v n s Report.Ticket nc nu nl ns (ticket k) (inr (has t es v n s Report.Ticket nc nu nl ns, high)) (inr other)
+invariant_ticket t es n s k v nc nu nl ns na nt =
+    invariant_report t es v n s Report.Ticket nc nu nl ns (ticket k) (inr (has t es v n s Report.Ticket nc nu nl ns, high)) (inr other)
   where
     q : Row
     q = row_of_number t n
@@ -156,8 +156,8 @@ invariant-ticket t es n s k v nc nu nl ns na nt =
         go State.Active p = used State.Active p (λ z. never (cc))
         go State.Committed p = used State.Committed p (λ z. never (cc))
 
-pub invariant-prepared : (t : Table) (es : List Entry) (n s : ℕ) → Invariant t es → ¬ Closed t → ¬ Unknown t n → ¬ NotListed (row_of_number t n) s
+pub invariant_prepared : (t : Table) (es : List Entry) (n s : ℕ) → Invariant t es → ¬ Closed t → ¬ Unknown t n → ¬ NotListed (row_of_number t n) s
     → ¬ NoStep (row_of_number t n) s Report.Prepared → Invariant (effect t (report_prepared n s)).table es
 unfolding effect
-invariant-prepared t es n s v nc nu nl ns =
-    invariant-report t es v n s Report.Prepared nc nu nl ns (part_at (row_of_number t n) s).ticket (inl (sym (ticket_part (row_of_number t n) s))) (inl (sym (ticket_part (row_of_number t n) s)))
+invariant_prepared t es n s v nc nu nl ns =
+    invariant_report t es v n s Report.Prepared nc nu nl ns (part_at (row_of_number t n) s).ticket (inl (sym (ticket_part (row_of_number t n) s))) (inl (sym (ticket_part (row_of_number t n) s)))

@@ -84,8 +84,8 @@ module _ (t : Table) where
     no_arrow_in j d k a = true_not_false
         ((stays_iff t (row_at t i) (kept_of_slot i c)).1 (reached_of_next (kept_of_slot i c) ((stays_iff t (row_at t j) (kept_of_slot j d)).0 k) (kept_of_slot j d) a)) s
 
-  pub invariant-sweep : (es : List Entry) → Invariant t es → ¬ Closed t → Invariant (swept_table t) es
-  invariant-sweep es v nc = record {
+  pub invariant_sweep : (es : List Entry) → Invariant t es → ¬ Closed t → Invariant (swept_table t) es
+  invariant_sweep es v nc = record {
     shape = shape_freed t (swept_table t) v.shape (length-map t.rows (swept_row t) ∙ v.shape.slots) refl refl slot_cases no_site_free;
     sound = sound_freed (row_at t) row' free lost (high_at t) t.last.0 es v.sound;
     orderly = orderly_freed (row_at t) row' free v.orderly;

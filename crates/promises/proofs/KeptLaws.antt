@@ -18,7 +18,7 @@ use Rattle.method.specs.Slots.{kept_entries, kept_flat}
 use Rattle.method.specs.Calls.{call_refusals}
 use Rattle.runs.specs.Run.{Run, Run.call, after}
 use Rattle.runs.specs.History.{history}
-use Rattle.runs.proofs.HistoryLaws.{invariant-run}
+use Rattle.runs.proofs.HistoryLaws.{invariant_run}
 use Rattle.invariant.proofs.KeptLaws.{rows_of_kept, kept_good, kept_ordered}
 use Rattle.replies.specs.Desk.{Asks, Asks.calls, Asks.proposes, Asks.wants_order, asks_for, reply_to, desk, desk_read, desk_body}
 use Rattle.turns.specs.Lines.{lines_of}
@@ -40,13 +40,13 @@ desk_run r b = go (message_of b)
 
 module _ (r : Run) where
   pub run_good : GoodRows (kept_flat (after r))
-  run_good = kept_good (after r) (history r) (invariant-run r)
+  run_good = kept_good (after r) (history r) (invariant_run r)
 
   pub run_rows : entries_in (kept_flat (after r)) ≡ kept_entries (after r)
-  run_rows = rows_of_kept (after r) (history r) (invariant-run r)
+  run_rows = rows_of_kept (after r) (history r) (invariant_run r)
 
   pub run_ordered : (o : List ℕ) × InOrder (kept_entries (after r)) o
-  run_ordered = kept_ordered (after r) (history r) (invariant-run r)
+  run_ordered = kept_ordered (after r) (history r) (invariant_run r)
 
   pub flat_ordered : (o : List ℕ) × InOrder (entries_in (kept_flat (after r))) o
   flat_ordered = rw run_rows run_ordered

@@ -40,7 +40,7 @@ use Rattle.runs.specs.Run.{after}
 use Rattle.runs.specs.History.{history}
 use Rattle.invariant.proofs.KnownLaws.{found, changed}
 use Rattle.invariant.proofs.ChangeLaws.{there}
-use Rattle.runs.proofs.HistoryLaws.{invariant-run}
+use Rattle.runs.proofs.HistoryLaws.{invariant_run}
 use Rattle.runs.proofs.FollowLaws.{follows as run-follows, active_iff_begun, kept_iff_committed}
 use Rattle.runs.proofs.PlacedLaws.{placed}
 use Rattle.runs.proofs.PaperLaws.{forget_done_iff, forgotten_iff_paper}
@@ -147,7 +147,7 @@ swept_is t nc = ap (λ (a : Answered). a.table) (sweep_is t nc)
 pub sweeps_exactly : SweepsExactly
 sweeps_exactly = record {
   every = λ t a u g nc. rw (g.0, g.1) (step_sweeps t.held nc);
-  forgets = λ r nc. let (ns, f) = forget_all (after r) (history r) (invariant-run r) nc in (ns, rw (swept_is (after r) nc) f);
+  forgets = λ r nc. let (ns, f) = forget_all (after r) (history r) (invariant_run r) nc in (ns, rw (swept_is (after r) nc) f);
   none = λ r nc. rw (swept_is (after r) nc) (none_to_forget (after r));
 }
 

@@ -18,8 +18,8 @@ use Rattle.method.specs.Seen.{IsActive, IsCommitted, num}
 use Rattle.runs.specs.Run.{Run, Run.start, Run.call, after, answer_to, Happened, Commits, CommitsBeside}
 use Rattle.runs.specs.History.{history}
 use Rattle.invariant.proofs.ChangeLaws.{Changed, both, not_committed, not_free}
-use Rattle.invariant.proofs.OpenLaws.{invariant-closed, free_after_open}
-use Rattle.runs.proofs.HistoryLaws.{invariant-run}
+use Rattle.invariant.proofs.OpenLaws.{invariant_closed, free_after_open}
+use Rattle.runs.proofs.HistoryLaws.{invariant_run}
 use Rattle.runs.proofs.StepLaws.{Change, Change.refuses, Change.opens, Change.begins, Change.reports, Change.commits, Change.clears}
 use Rattle.invariant.proofs.StandingLaws.{closed_free, one_slot}
 use Rattle.runs.proofs.CensusLaws.{last_grows}
@@ -31,8 +31,8 @@ counted_beside : (n m : ℕ) (r : Run) → Happened (CommitsBeside n m) r → m 
 unfolding Happened after
 counted_beside n m start x = absurd x
 counted_beside n m (call r c) (inl (x, (i, ac, e))) =
-    omega (arith, e, ((invariant-run r).sound.rows i).counted, last_grows (after r) (history r) (invariant-run r) c (change_of_run r c))
-counted_beside n m (call r c) (inr x) = omega (arith, counted_beside n m r x, last_grows (after r) (history r) (invariant-run r) c (change_of_run r c))
+    omega (arith, e, ((invariant_run r).sound.rows i).counted, last_grows (after r) (history r) (invariant_run r) c (change_of_run r c))
+counted_beside n m (call r c) (inr x) = omega (arith, counted_beside n m r x, last_grows (after r) (history r) (invariant_run r) c (change_of_run r c))
 
 -- of a committed row and an active one
 abbrev Told : Run → Row → Row → Type 0
@@ -67,7 +67,7 @@ module _ (r : Run) (c : Call) (v : (i j : ℕ) → i ≢ j → Told r (row_at (a
   beside_step (opens first floors e f st cl b p) j k d = λ cm. absurd (let z = ap (λ (y : Table). (row_at y j).state) p ∙ (free_after_open first floors j).free in never (cc))
   beside_step (begins sites i e f st nc fr ch l h w) j k d = quiet (λ n y. never (cc)) i (new_row t sites) ch (λ y. never (cc))
       (λ y z cm ac. (
-        λ x. absurd (omega (arith, ((invariant-run r).sound.rows y).marked)),
+        λ x. absurd (omega (arith, ((invariant_run r).sound.rows y).marked)),
         λ x. elim x [ inl g ↦ never (cc) | inr g ↦ absurd (omega (arith, counted_beside _ _ r g)) ],
       )) j k d
   beside_step (reports p m s x i e f st w sm) j k d =
@@ -75,7 +75,7 @@ module _ (r : Run) (c : Call) (v : (i j : ℕ) → i ≢ j → Told r (row_at (a
   beside_step (commits m e f st w) j k d = both w.changed (Told (call r c))
       (λ y z cm ay. (
         λ x. inl ((e ∙ ap {B = Call} decide (sym w.named), f ∙ ap {B = Answer} (λ (n : ℕ). Answer.Commit (number n)) (sym w.named)), (y, ay, refl)),
-        λ x. ((invariant-run r).sound.rows y).counted,
+        λ x. ((invariant_run r).sound.rows y).counted,
       ))
       (λ y z cm ay. never (cc))
       (λ y z g. told_other y z g) j k d
@@ -85,7 +85,7 @@ module _ (r : Run) (c : Call) (v : (i j : ℕ) → i ≢ j → Told r (row_at (a
         where
           clash : m ≡ num (row_at t y) → Dec (y ≡ slot_of t m) → ⊥
           clash q (yes i) = not_committed w.active (rw i at cm)
-          clash q (no i) = one_slot t (history r) (invariant-run r) (slot_of t m) y m i (not_free w.active) (λ w. never (cc)) w.named (sym q)
+          clash q (no i) = one_slot t (history r) (invariant_run r) (slot_of t m) y m i (not_free w.active) (λ w. never (cc)) w.named (sym q)
   beside_step (clears q w sm) j k d = elim (w.slots j) [
     | inl x ↦ elim (w.slots k) [
       | inl y ↦ subst (λ (z : Row). Told (call r c) z (row_at u k)) (sym x) (subst (Told (call r c) (row_at t j)) (sym y) (carried j k d (q.commits (num (row_at t j)))))
@@ -96,5 +96,5 @@ module _ (r : Run) (c : Call) (v : (i j : ℕ) → i ≢ j → Told r (row_at (a
 
 pub beside : (r : Run) (i j : ℕ) → i ≢ j → Told r (row_at (after r) i) (row_at (after r) j)
 unfolding after
-beside start i j d cm = let z = closed_free closed _ invariant-closed refl i in never (cc)
+beside start i j d cm = let z = closed_free closed _ invariant_closed refl i in never (cc)
 beside (call r c) i j d cm = beside_step r c (beside r) (change_of_run r c) i j d cm

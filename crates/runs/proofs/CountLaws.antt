@@ -29,7 +29,7 @@ use Rattle.invariant.specs.Noted.{noted}
 use Rattle.runs.specs.History.{history}
 use Rattle.method.specs.Seen.{Has, tick}
 use Rattle.runs.specs.Follows.{Greatest}
-use Rattle.runs.proofs.HistoryLaws.{invariant-run}
+use Rattle.runs.proofs.HistoryLaws.{invariant_run}
 use Rattle.runs.proofs.StepLaws.{Change, Change.refuses, Change.opens, Change.begins, Change.reports, Change.commits, Change.clears, Seals}
 use Rattle.runs.proofs.EventLaws.{no_report_open}
 use Rattle.runs.proofs.CensusLaws.{refused_of_closed}
@@ -103,7 +103,7 @@ module _ (r : Run) (c : Call) (v : Counts r) where
       let k : high_at u s ≡ get_or floors s 0 =
       ap (λ (y : Table). high_at y s) p ∙ ap (λ (y : List ℕ). (get_or (padded 8 y) s (ticket 0)).0) z
       ∙ ap (λ (y : Ticket). y.0) (floor_at 8 floors s l (omega (arith, few_floors f fs b, ap length z))) in
-      rw (g, ((invariant-run r).shut cl).0) (record { least = omega (arith, k); all = λ y m. absurd (Memᴰ.not-nil m); one = inl k })
+      rw (g, ((invariant_run r).shut cl).0) (record { least = omega (arith, k); all = λ y m. absurd (Memᴰ.not-nil m); one = inl k })
 
   committing : (m : ℕ) → c ≡ decide m → a ≡ Answer.Commit (number m) → Seals t c a u m
       → (first : ℕ) (floors : List ℕ) → Happened (Opens first floors) (call r c) → (s : ℕ) → s < length floors → Greatest (high_at u s) (get_or floors s 0) (noted u a (history r)) s
@@ -116,7 +116,7 @@ module _ (r : Run) (c : Call) (v : Counts r) where
       own (inl (y, z)) = omega arith
       own (inr (y, z)) = elim (dec_le (tick (row_of_number t m) s) 0) [
         | yes k ↦ omega arith
-        | no k ↦ absurd (y (((invariant-run r).sound.rows (slot_of t m)).listed s (omega arith)))
+        | no k ↦ absurd (y (((invariant_run r).sound.rows (slot_of t m)).listed s (omega arith)))
       ]
 
   highest : Change t c a u → (first : ℕ) (floors : List ℕ) → Happened (Opens first floors) (call r c) → (s : ℕ) → s < length floors
@@ -153,7 +153,7 @@ module _ (r : Run) (c : Call) (v : Counts r) where
   shut : Closed u → (begunSoFar r + is_begun a ≡ 0) × ((first : ℕ) (floors : List ℕ) → ¬ Happened (Opens first floors) (call r c))
   unfolding Happened
   shut cl =
-      let (k, e, x) = refused_of_closed (after r) (history r) (invariant-run r) c (change_of_run r c) cl in
+      let (k, e, x) = refused_of_closed (after r) (history r) (invariant_run r) c (change_of_run r c) cl in
       let z : is_begun a ≡ 0 = rw e in
       (omega (arith, (v.shut x).0), λ first floors y. elim y [ inl w ↦ never (cc) | inr w ↦ (v.shut x).1 first floors w ])
 

@@ -42,7 +42,7 @@ use Rattle.invariant.specs.Invariant.{Invariant}
 use Rattle.runs.specs.Sweeps.{free_slots, ForgetAll}
 use Rattle.invariant.proofs.ChangeLaws.{Changed}
 use Rattle.invariant.proofs.KnownLaws.{Found, found, known_iff, changed, slot_of_used}
-use Rattle.invariant.proofs.DropLaws.{invariant-forget}
+use Rattle.invariant.proofs.DropLaws.{invariant_forget}
 use Rattle.invariant.proofs.SweepLaws.{kept_of_slot, slot_goes, slot_stays, slot_other, free_of_hold, no_arrow_in}
 use Rattle.invariant.proofs.KeptLaws.{kept_apart, kept_ordered}
 use Rattle.invariant.proofs.StandingLaws.{one_slot}
@@ -135,9 +135,9 @@ module _ (t : Table) (es : List Entry) (v : Invariant t es) (nc : ¬ Closed t) w
     forgets = (forgets_exactly t n nc known (rw row_of_number_lem l.is)).1 (rw row_of_number_lem l.alone, rw row_of_number_lem free)
         ∙ ap (λ (j : ℕ). answered (with_row t j free_row) Answer.Done) (slot_is i used)
 
-    pub invariant-u : Invariant u es
-    invariant-u = subst (λ (j : ℕ). Invariant (with_row t j free_row) es) (slot_is i used)
-        (invariant-forget t es n v nc known (λ m. elim m [ inl p ↦ l.alone (rw row_of_number_lem at p) | inr p ↦ free (rw row_of_number_lem at p) ]))
+    pub invariant_u : Invariant u es
+    invariant_u = subst (λ (j : ℕ). Invariant (with_row t j free_row) es) (slot_is i used)
+        (invariant_forget t es n v nc known (λ m. elim m [ inl p ↦ l.alone (rw row_of_number_lem at p) | inr p ↦ free (rw row_of_number_lem at p) ]))
 
     -- the kept rows of the next table are the others
     kept_u : (j : ℕ) → j ≢ i → IsCommitted (row_at t j) → row_at t j ∈ kept u
@@ -264,7 +264,7 @@ forget_all_from (suc k) t es v nc e = go (λ u w nu f. forget_all_from k u es w 
     go again (x, m) =
         let (i, l) = loose_slot t es v nc x m in
         let f = forgets t es v nc i l in
-        let (ns, r) = again (with_row t i free_row) (invariant-u t es v nc i l) nc (omega (arith, fewer t es v nc i l)) in (
+        let (ns, r) = again (with_row t i free_row) (invariant_u t es v nc i l) nc (omega (arith, fewer t es v nc i l)) in (
           num (row_at t i) ∷ ns,
           (
             ap (λ (y : Answered). y.answer) f,

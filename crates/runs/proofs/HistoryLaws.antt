@@ -5,19 +5,19 @@ use Rattle.orders.specs.Good.{Apart}
 use Rattle.orders.specs.Order.{InOrder}
 use Rattle.orders.proofs.OrderLaws.{order_exists_iff_no_cycle}
 use Rattle.invariant.specs.Invariant.{Invariant}
-use Rattle.invariant.proofs.OpenLaws.{invariant-closed}
-use Rattle.invariant.proofs.InvariantLaws.{invariant-step}
+use Rattle.invariant.proofs.OpenLaws.{invariant_closed}
+use Rattle.invariant.proofs.InvariantLaws.{invariant_step}
 use Rattle.runs.specs.Run.{Run, Run.start, Run.call, after}
 use Rattle.runs.specs.History.{history}
 
-pub invariant-run : (r : Run) → Invariant (after r) (history r)
+pub invariant_run : (r : Run) → Invariant (after r) (history r)
 unfolding after history
-invariant-run start = invariant-closed
-invariant-run (call r c) = invariant-step (after r) (history r) c (invariant-run r)
+invariant_run start = invariant_closed
+invariant_run (call r c) = invariant_step (after r) (history r) c (invariant_run r)
 
 -- all that was committed since the opening, forgotten ones too: different numbers, different tickets at each site, and an order
 pub history_apart : (r : Run) → Apart (history r)
-history_apart r = (invariant-run r).sound.apart
+history_apart r = (invariant_run r).sound.apart
 
 pub history_ordered : (r : Run) → (order : List ℕ) × InOrder (history r) order
-history_ordered r = (order_exists_iff_no_cycle (history r) (history_apart r).numbers).1 (invariant-run r).sound.acyclic
+history_ordered r = (order_exists_iff_no_cycle (history r) (history_apart r).numbers).1 (invariant_run r).sound.acyclic

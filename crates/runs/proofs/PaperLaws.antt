@@ -21,7 +21,7 @@ use Rattle.method.specs.Seen.{Known, Active, Kept, IsFree, IsCommitted}
 use Rattle.runs.specs.Run.{Run, after, answer_to, Happened, Commits, CommitsBeside, Over}
 use Rattle.runs.specs.History.{history}
 use Rattle.invariant.proofs.ChangeLaws.{not_free}
-use Rattle.runs.proofs.HistoryLaws.{invariant-run}
+use Rattle.runs.proofs.HistoryLaws.{invariant_run}
 use Rattle.invariant.proofs.KnownLaws.{found, known_iff}
 use Rattle.invariant.proofs.StandingLaws.{one_slot, closed_free}
 use Rattle.runs.proofs.PresentLaws.{census}
@@ -53,12 +53,12 @@ module _ (r : Run) (n : ℕ) (k : Kept (after r) n) where
   known = (known_iff t n).0 (k.0, in_use, k.2)
 
   pub open_of_kept : ¬ Closed t
-  open_of_kept cl = in_use (closed_free t (history r) (invariant-run r) cl k.0)
+  open_of_kept cl = in_use (closed_free t (history r) (invariant_run r) cl k.0)
 
   pub committed_of_kept : IsCommitted q
   committed_of_kept = elim (ℕ_discrete (slot_of t n) k.0) [
     | yes e ↦ rw e k.1
-    | no d ↦ absurd (let f = found t n known in one_slot t (history r) (invariant-run r) k.0 (slot_of t n) n d in_use f.used k.2 f.named)
+    | no d ↦ absurd (let f = found t n known in one_slot t (history r) (invariant_run r) k.0 (slot_of t n) n d in_use f.used k.2 f.named)
   ]
 
   held_iff : HeldBack t q ↔ ((m : ℕ) × Happened (CommitsBeside n m) r × Active t m)

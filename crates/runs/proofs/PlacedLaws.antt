@@ -28,7 +28,7 @@ use Rattle.runs.specs.Placed.{Lowest, Placed}
 use Rattle.invariant.proofs.ChangeLaws.{not_free}
 use Rattle.invariant.proofs.KnownLaws.{changed}
 use Rattle.invariant.proofs.OpenLaws.{begin_slot, free_after_open}
-use Rattle.runs.proofs.HistoryLaws.{invariant-run}
+use Rattle.runs.proofs.HistoryLaws.{invariant_run}
 use Rattle.runs.proofs.PresentLaws.{change_of_run}
 use Rattle.runs.proofs.StepLaws.{Change, Change.refuses, Change.opens, Change.begins, Change.reports, Change.commits, Change.clears}
 
@@ -88,11 +88,11 @@ module _ (t : Table) (c : Call) (a : Answer) (u : Table) (j : ℕ) (used : ¬ Is
 pub placed : (r : Run) → Placed r
 unfolding after
 placed r = record {
-  slots = (invariant-run r).shape.slots;
-  zeros = (invariant-run r).shape.zeros;
+  slots = (invariant_run r).shape.slots;
+  zeros = (invariant_run r).shape.zeros;
   once = λ i j f g e. elim (ℕ_discrete i j) [
     | yes h ↦ h
-    | no h ↦ absurd (((invariant-run r).sound.pairs i j h).numbers (((invariant-run r).sound.rows i).named f) e)
+    | no h ↦ absurd (((invariant_run r).sound.pairs i j h).numbers (((invariant_run r).sound.rows i).named f) e)
   ];
   given = λ c i u. go c i u (free_or_not (row_at (after r) i));
 }
@@ -103,4 +103,4 @@ placed r = record {
     go c i u (inr f) = inl (f, same_number (after r) c (answer_to r c) (step (after r) c).table i u (change_of_run r c) f)
     go c i u (inl f) =
         let (sites, b) = begun_there (after r) c (answer_to r c) (step (after r) c).table i u (change_of_run r c) f in
-        inr (takes_lowest (after r) (history r) (invariant-run r) sites i _ (rw b.0 at b.1) (rw b.0 at u) f, (sites, b))
+        inr (takes_lowest (after r) (history r) (invariant_run r) sites i _ (rw b.0 at b.1) (rw b.0 at u) f, (sites, b))

@@ -18,14 +18,14 @@ use Rattle.method.specs.Seen.{Known}
 use Rattle.runs.specs.Run.{Run, Run.start, Run.call, after, answer_to, Happened, Begins, Aborts, Forgets, Over, BegunIn}
 use Rattle.runs.specs.History.{history}
 use Rattle.invariant.specs.Invariant.{Invariant}
-use Rattle.invariant.proofs.OpenLaws.{invariant-closed}
+use Rattle.invariant.proofs.OpenLaws.{invariant_closed}
 use Rattle.invariant.proofs.StandingLaws.{closed_free}
-use Rattle.runs.proofs.HistoryLaws.{invariant-run}
+use Rattle.runs.proofs.HistoryLaws.{invariant_run}
 use Rattle.runs.proofs.StepLaws.{Change, change_of_step}
 use Rattle.runs.proofs.CensusLaws.{known_forth, known_back, known_of_leaves, begins_next, last_grows, refused_of_closed}
 
 pub change_of_run : (r : Run) (c : Call) → Change (after r) c (step (after r) c).answer (step (after r) c).table
-change_of_run r c = change_of_step (after r) (history r) (invariant-run r) c
+change_of_run r c = change_of_step (after r) (history r) (invariant_run r) c
 
 pub record Census (r : Run) : Type 0 where
   pub present : (n : ℕ) → BegunIn r n → Known (after r) n ⊎ Over r n
@@ -39,7 +39,7 @@ unfolding after Happened
 census_start = record {
   present = λ n b. absurd b.1;
   absent = λ n o. absurd (never_over n o);
-  first = λ n k. absurd (elim k [ inl x ↦ x.1 (closed_free closed [] invariant-closed refl x.0) | inr o ↦ never_over n o ]);
+  first = λ n k. absurd (elim k [ inl x ↦ x.1 (closed_free closed [] invariant_closed refl x.0) | inr o ↦ never_over n o ]);
   counted = λ n b. absurd b.1;
   shut = λ c n b. b.1;
 }
@@ -50,7 +50,7 @@ census_start = record {
 
 module _ (r : Run) (c : Call) (v : Census r) where
   abbrev i : Invariant (after r) (history r)
-  i = invariant-run r
+  i = invariant_run r
 
   abbrev ch : Change (after r) c (step (after r) c).answer (step (after r) c).table
   ch = change_of_run r c

@@ -17,8 +17,8 @@ use Rattle.runs.specs.Run.{Run, Run.start, Run.call, after, answer_to, Happened,
 use Rattle.runs.specs.History.{history}
 use Rattle.runs.specs.Follows.{RowFollows}
 use Rattle.invariant.proofs.ChangeLaws.{every, not_free}
-use Rattle.invariant.proofs.OpenLaws.{invariant-closed, free_after_open}
-use Rattle.runs.proofs.HistoryLaws.{invariant-run}
+use Rattle.invariant.proofs.OpenLaws.{invariant_closed, free_after_open}
+use Rattle.runs.proofs.HistoryLaws.{invariant_run}
 use Rattle.runs.proofs.StepLaws.{Change, Change.refuses, Change.opens, Change.begins, Change.reports, Change.commits, Change.clears}
 use Rattle.invariant.proofs.StandingLaws.{closed_free, one_slot}
 use Rattle.runs.proofs.EventLaws.{Told, same_told, no_report_open}
@@ -81,7 +81,7 @@ module _ (r : Run) (c : Call) (v : RowsFollow r) where
 
   -- another slot has another number
   other_number : (i j : ℕ) → j ≢ i → ¬ IsFree (row_at t i) → ¬ IsFree (row_at t j) → num (row_at t j) ≢ num (row_at t i)
-  other_number i j d f g e = one_slot t (history r) (invariant-run r) i j (num (row_at t i)) d f g refl e
+  other_number i j d f g e = one_slot t (history r) (invariant_run r) i j (num (row_at t i)) d f g refl e
 
   rows_follow : Change t c a u → (i : ℕ) → Next (row_at u i)
   unfolding new_row reported committed_row
@@ -111,5 +111,5 @@ module _ (r : Run) (c : Call) (v : RowsFollow r) where
 
 pub rows_follow_run : (r : Run) → RowsFollow r
 unfolding after
-rows_follow_run start i f = absurd (f (closed_free closed _ invariant-closed refl i))
+rows_follow_run start i f = absurd (f (closed_free closed _ invariant_closed refl i))
 rows_follow_run (call r c) i f = rows_follow r c (rows_follow_run r) (change_of_run r c) i f
