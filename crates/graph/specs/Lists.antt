@@ -1,5 +1,7 @@
 -- Members and places of a list, and the members that pass a test. Rests on the library's lists.
-use Rattle.std.specs.Prelude.{◌≡◌, Bool, true, false, cond, ◌||◌, ℕ, zero, suc}
+use Rattle.std.specs.Prelude.{◌≡◌, Bool, true, false, ℕ, zero, suc}
+use Rattle.std.specs.Prelude.{filter}
+use Rattle.std.specs.List.{list_any}
 use mathlib.Core.List.{List, [], ◌∷◌, Memᴰ}
 
 infix 4 ◌∈◌ ◌⊆◌
@@ -23,13 +25,11 @@ module _ {A : Type 0} where
 
   -- some member passes
   abbrev pub any_of : (A → Bool) → List A → Bool
-  any_of f [] = false
-  any_of f (x ∷ xs) = f x || any_of f xs
+  any_of f xs = list_any f xs
 
   -- the members that pass, in their sequence
   abbrev pub keep : (A → Bool) → List A → List A
-  keep f [] = []
-  keep f (x ∷ xs) = cond (f x) (x ∷ keep f xs) (keep f xs)
+  keep f xs = filter f xs
 
   abbrev pub is_nil : List A → Bool
   is_nil [] = true

@@ -9,14 +9,14 @@ pub const SLOTS: usize = 32;
 pub const SITES: usize = 8;
 
 // A number is counted by the table, a ticket by its site: the two are never mixed up.
-#[derive(Clone, Copy)]
+#[derive(Clone, Copy, PartialEq, Eq, PartialOrd, Ord)]
 pub struct Number(pub u32);
 
-#[derive(Clone, Copy)]
+#[derive(Clone, Copy, PartialEq, Eq, PartialOrd, Ord)]
 pub struct Ticket(pub u32);
 
 // How far one site of a transaction has come.
-#[derive(Clone, Copy)]
+#[derive(Clone, Copy, PartialEq, Eq)]
 pub enum Stage {
     Begun,
     Ticketed,
@@ -24,7 +24,7 @@ pub enum Stage {
 }
 
 // What a site reports, and what the stage table gives for it: the next stage, or refusal 4.
-#[derive(Clone, Copy)]
+#[derive(Clone, Copy, PartialEq, Eq)]
 pub enum Report {
     Ticket,
     Prepared,
@@ -36,7 +36,7 @@ pub enum Step {
     Refused,
 }
 
-#[derive(Clone, Copy)]
+#[derive(Clone, Copy, PartialEq, Eq)]
 pub enum State {
     Free,
     Active,
