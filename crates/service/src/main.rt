@@ -4,16 +4,20 @@
 
 ghost use Rattle.std.specs.Prelude.{◌≡◌, ◌-◌, ◌≤◌, length, take, drop};
 ghost use Rattle.endian.specs.Laid.{laid};
+ghost use Rattle.service.specs.declared.TheConstants.{BUFFER};
 
 use std::io::{Read, Write};
 use table::Table;
 
-// Between two reads: the table, how many bytes of input wait in front of their buffer, and whether to go on.
+// The length of the buffers for input and for output.
+const BUFFER: usize = 65536;
+
+// Between two reads: the table, and how many bytes of input wait in front of their buffer.
 #[derive(Drop)]
 struct State {
     table: Table,
     waiting: usize,
-    going: bool,
+    ghost in_buffer: { waiting ≤ BUFFER },
 }
 
 // Moves the bytes from `from` to `to` to the front.
@@ -21,49 +25,37 @@ fn move_down(buf: &mut [u8], from: usize, to: usize)
     requires { (from ≤ to) × (to ≤ length buf.old) }
     ensures { buf.new ≡ laid buf.old 0 (take (to - from) (drop from buf.old)) }
 {
-    let mut k: usize = 0;
-    while k < to - from {
-        let b = buf[from + k];
-        buf[k] = b;
-        k += 1;
-    }
+    buf.copy_within(from..to, 0);
 }
 
 // Answers every whole message that waits, a turn and a write at a time. The output's buffer takes the longest line, so a turn
-// that used nothing has found no whole message.
+// that used nothing has found no whole message. None is the end of the run: the last line is written, or a write failed.
 fn settle<W: Write>(
-    t: Table,
-    waiting: usize,
+    s: State,
     last: bool,
-    input: &mut [u8],
-    output: &mut [u8],
+    input: &mut [u8; BUFFER],
+    output: &mut [u8; BUFFER],
     to: &mut W,
-) -> State
-    requires { waiting ≤ length input.old }
-    ensures { result.waiting ≤ length input.old }
-{
-    let mut table = t;
-    let mut left = waiting;
+) -> Option<State> {
+    let mut table = s.table;
+    let mut left = s.waiting;
     loop {
-        let r = turns::take_turn(table, &input[..left], last, output);
-        let written = r.written;
-        let used = r.used;
-        table = r.table;
-        let sent = to.write_all(&output[..written]).is_ok();
-        move_down(input, used, left);
-        left -= used;
-        if r.over | !sent {
-            return State {
-                table: table,
-                waiting: left,
-                going: false,
-            };
+        let turn = turns::take_turn(table, &input[..left], last, output);
+        to.write_all(&output[..turn.written]).ok()?;
+        move_down(input, turn.used, left);
+        left -= turn.used;
+        table = turn.table;
+        if turn.over {
+            return None;
         }
-        if used == 0 {
-            return State {
-                table: table,
-                waiting: left,
-                going: !last,
+        if turn.used == 0 {
+            return if last {
+                None
+            } else {
+                Some(State {
+                    table,
+                    waiting: left,
+                })
             };
         }
     }
@@ -72,44 +64,33 @@ fn settle<W: Write>(
 // Reads once, and answers what is then whole. A read that gives nothing is the end of the input; one that fails ends the run.
 fn round<R: Read, W: Write>(
     s: State,
-    input: &mut [u8],
-    output: &mut [u8],
+    input: &mut [u8; BUFFER],
+    output: &mut [u8; BUFFER],
     from: &mut R,
     to: &mut W,
-) -> State
-    requires { s.waiting ≤ length input.old }
-    ensures { result.waiting ≤ length input.old }
-{
-    let waiting = s.waiting;
-    let table = s.table;
-    match from.read(&mut input[waiting..]) {
-        Ok(n) => settle(table, waiting + n, n == 0, input, output, to),
-        Err(_) => State {
-            table: table,
-            waiting: waiting,
-            going: false,
-        },
-    }
+) -> Option<State> {
+    let n = from.read(&mut input[s.waiting..]).ok()?;
+    let read = State {
+        table: s.table,
+        waiting: s.waiting + n,
+    };
+    settle(read, n == 0, input, output, to)
 }
 
-// A proved loop has to end, and nothing says that the input does: it counts its reads down from a number that no run uses up.
+// A proved loop has to end, and nothing says that the input does: it counts its reads up to a number that no run comes to.
 fn main(rt: HostRuntime) {
     let mut from = rt.stdin();
     let mut to = rt.stdout();
-    let mut input = [0u8; 65536];
-    let mut output = [0u8; 65536];
-    let table = table::closed();
+    let mut input = [0; BUFFER];
+    let mut output = [0; BUFFER];
     let mut state = State {
-        table: table,
+        table: table::closed(),
         waiting: 0,
-        going: true,
     };
-    let mut reads = u64::MAX;
-    while reads > 0 {
-        state = round(state, &mut input, &mut output, &mut from, &mut to);
-        if !state.going {
+    for _ in 0..u64::MAX {
+        let Some(next) = round(state, &mut input, &mut output, &mut from, &mut to) else {
             return;
-        }
-        reads -= 1;
+        };
+        state = next;
     }
 }

@@ -10,11 +10,11 @@ ghost use Rattle.std.specs.Prelude.{◌≤◌, length};
 use std::io::{Read, Write};
 use table::Table;
 
+// A stream on the table; what it left.
 fn run<W: Write>(t: Table, stream: &[u8], out: &mut [u8], to: &mut W) -> Table {
-    let r = turns::take_turn(t, stream, true, out);
-    let written = r.written;
-    let _ = to.write_all(&out[..written]);
-    r.table
+    let turn = turns::take_turn(t, stream, true, out);
+    let _ = to.write_all(&out[..turn.written]);
+    turn.table
 }
 
 fn label<W: Write>(text: &[u8], to: &mut W) -> Table {
@@ -22,25 +22,20 @@ fn label<W: Write>(text: &[u8], to: &mut W) -> Table {
     table::closed()
 }
 
-fn play<W: Write>(t: Table, kind: u8, bytes: &[u8], out: &mut [u8], to: &mut W) -> Table {
-    if kind == 0 {
-        return label(bytes, to);
-    }
-    run(t, bytes, out, to)
-}
-
+// Plays the records up to the first that is cut off.
 fn records<W: Write>(input: &[u8], out: &mut [u8], to: &mut W) {
     let mut table = table::closed();
-    let mut at: usize = 0;
-    while at + 3 <= input.len() {
-        let head = &input[at..];
-        let kind = endian::get8(head, 0);
-        let n = endian::get16(head, 1) as usize;
-        if head.len() < 3 + n {
+    let mut rest = input;
+    while let [kind, a, b, tail @ ..] = rest {
+        let n = u16::from_be_bytes([*a, *b]);
+        let Some((bytes, after)) = tail.split_at_checked(usize::from(n)) else {
             return;
-        }
-        table = play(table, kind, &head[3..3 + n], out, to);
-        at += 3 + n;
+        };
+        table = match kind {
+            0 => label(bytes, to),
+            _ => run(table, bytes, out, to),
+        };
+        rest = after;
     }
 }
 

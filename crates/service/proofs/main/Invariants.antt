@@ -1,9 +1,7 @@
--- It counts its reads down.
-use Rattle.std.proofs.Common.{◌≤◌, length}
+-- What waits lies in the buffer for input.
+use Rattle.std.proofs.Common.{◌≤◌}
+use Rattle.service.specs.declared.TheConstants.{BUFFER}
 use Rattle.service.proofs.main.Given as goal
 
-abbrev pub invariant-loop-reads : goal.invariant-loop-reads
-invariant-loop-reads l = l.state.waiting ≤ length l.input
-
-abbrev pub decreases-loop-reads : goal.decreases-loop-reads
-decreases-loop-reads l = l.reads
+abbrev pub invariant-loop : goal.invariant-loop
+invariant-loop l = l.state.1.0 ≤ BUFFER
