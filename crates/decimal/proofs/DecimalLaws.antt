@@ -9,11 +9,11 @@ use lib.ListN.{length, get_or, length-append, get_or-append}
 use borrow.Author.Tests.{lt-ltb, le-ltb, ltb-true, ltb-false}
 use Rattle.decimal.specs.Decimal.{digit_byte, decimal_by, decimal, value_behind, Digits, DecimalOf}
 
-decimal_by_small : (k n : ℕ) → n < 10 → decimal_by (suc k) n ≡ digit_byte n ∷ []
+pub decimal_by_small : (k n : ℕ) → n < 10 → decimal_by (suc k) n ≡ digit_byte n ∷ []
 unfolding decimal_by
 decimal_by_small k n h = rw (lt-ltb n 10 h, decimal_by)
 
-decimal_by_more : (k n : ℕ) → 10 ≤ n → decimal_by (suc k) n ≡ decimal_by k (n / 10) ++ (digit_byte (n % 10) ∷ [])
+pub decimal_by_more : (k n : ℕ) → 10 ≤ n → decimal_by (suc k) n ≡ decimal_by k (n / 10) ++ (digit_byte (n % 10) ∷ [])
 unfolding decimal_by
 decimal_by_more k n h = rw (le-ltb n 10 h, decimal_by)
 

@@ -1,4 +1,4 @@
 pub mod DecimalLaws
 pub mod TextLaws
 pub mod WrittenLaws
-mod SpellingLaws
+pub mod ItoaLaws

@@ -1,15 +1,18 @@
 -- What is stored piece by piece is laid as a whole; and what a writer answers and leaves, with room and without. Assumes nothing.
-use mathlib.Core.Path.{◌≡◌, ◌∙◌, sym}
+use mathlib.Core.Path.{◌≡◌, ◌∙◌, refl, sym}
 use mathlib.Core.List.{List, [], ◌∷◌, ◌++◌}
-use Prim.Native.Nat.{ℕ, zero, ◌+◌, ◌<◌, ◌≤◌}
+use Prim.Native.Nat.{ℕ, ◌+◌, ◌<◌, ◌≤◌}
 use native.Mathlib.Nat.{add-zero}
 use native.Mathlib.Numerals.{add-one}
 use native.Mathlib.Omega.{arith}
 use lib.ListN.{length, set, take-append-drop}
 use lib.Seq.{set_split}
+use borrow.Rule.Slice.PartMut.{put_mid}
 use borrow.Author.Tests.{le-leb, lt-leb}
+use Rattle.std.proofs.lemmas.Slice.{put_mid-paste}
 use Rattle.endian.specs.Laid.{laid, stored}
-use Rattle.endian.proofs.LaidLaws.{length_laid, laid_of_laid, stored_of_room, stored_of_no_room}
+use Rattle.endian.proofs.LaidLaws.{laid_of_paste, length_laid, laid_of_laid, stored_of_room, stored_of_no_room}
+use Rattle.std.specs.Prelude.{Some, None}
 use Rattle.decimal.specs.Written.{written_count}
 
 -- nothing, one byte, and one byte right behind others
@@ -24,14 +27,18 @@ laid_of_set_behind l vs at b h =
     let k = length_laid l vs at (omega arith) in
     laid_of_set (laid l at vs) (at + length vs) b (omega arith) ∙ laid_of_laid l vs at (omega arith) (b ∷ [])
 
+-- what a write to `&mut l[at..at + n]` leaves
+pub laid_of_part : (l vs ys : List ℕ) (at n : ℕ) → ys ≡ vs → n ≡ length vs → put_mid at n l ys ≡ laid l at vs
+laid_of_part l vs ys at n e k = put_mid-paste at n l ys vs (length vs) e (sym k) refl ∙ laid_of_paste l vs at
+
 -- the answer and the buffer of a writer of vs
 module _ (l vs : List ℕ) (at : ℕ) where
-  pub written_of_room : at + length vs ≤ length l → (length vs ≡ written_count l at vs) × (laid l at vs ≡ stored l at vs)
+  pub written_of_room : at + length vs ≤ length l → (Some (length vs) ≡ written_count l at vs) × (laid l at vs ≡ stored l at vs)
   written_of_room h = (rw (le-leb (at + length vs) (length l) h), (stored_of_room l vs at h).1)
 
-  pub written_of_no_room : length l < at + length vs → (0 ≡ written_count l at vs) × (l ≡ stored l at vs)
+  pub written_of_no_room : length l < at + length vs → (None ≡ written_count l at vs) × (l ≡ stored l at vs)
   written_of_no_room h = (rw (lt-leb (at + length vs) (length l) h), (stored_of_no_room l vs at h).1)
 
-  -- 0 says no room and nothing else
-  pub no_room_of_zero : zero < length vs → written_count l at vs ≡ 0 → at + length vs ≤ length l → ⊥
-  no_room_of_zero k e h = omega (arith, (written_of_room h).0)
+  -- None says no room and nothing else
+  pub no_room_of_none : written_count l at vs ≡ None → at + length vs ≤ length l → ⊥
+  no_room_of_none e h = let r = (written_of_room h).0 in absurd (cc (r, e))

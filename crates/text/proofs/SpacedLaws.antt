@@ -1,11 +1,12 @@
 -- Numbers behind spaces, one more at a time: what the loops add with each turn. Assumes nothing.
 use mathlib.Core.Path.{◌≡◌, ◌∙◌, refl, sym, ap}
 use mathlib.Core.List.{List, [], ◌∷◌, ◌++◌, append-nil, append_assoc}
-use Prim.Native.Nat.{ℕ, zero, suc, ◌+◌, ◌-◌, ◌<◌, ◌≤◌, min}
+use Prim.Native.Nat.{ℕ, ◌+◌, ◌-◌, ◌<◌, ◌≤◌}
 use native.Mathlib.Numerals.{add-one}
 use native.Mathlib.Omega.{arith}
-use lib.ListN.{length, get_or, take, drop, length-append, length-take}
-use lib.Seq.{take-suc, take-add}
+use lib.ListN.{take-append-drop, length, get_or, take, drop, length-append}
+use lib.Seq.{take-suc}
+use Rattle.std.specs.List.{fold}
 use Rattle.decimal.specs.Decimal.{decimal}
 use Rattle.text.specs.Text.{spaced, text_of}
 
@@ -33,26 +34,20 @@ module _ (l : List ℕ) (i : ℕ) where
   pub spaced_take_more : i < length l → spaced (take (i + 1) l) ≡ spaced (take i l) ++ spaced (get_or l i 0 ∷ [])
   spaced_take_more h = rw (add-one i, take-suc l i 0 h) (spaced_append (take i l) (get_or l i 0 ∷ []))
 
-  pub length_spaced_more : i < length l → length (spaced (take (i + 1) l)) ≡ length (spaced (take i l)) + (1 + length (decimal (get_or l i 0)))
-  length_spaced_more h = rw (spaced_take_more h, length-append (spaced (take i l)) (spaced (get_or l i 0 ∷ [])), length_spaced_one (get_or l i 0))
+  pub length_spaced_more : i < length l → length (spaced (take (i + 1) l)) ≡ length (spaced (take i l)) + length (spaced (get_or l i 0 ∷ []))
+  length_spaced_more h = rw (spaced_take_more h) (length-append (spaced (take i l)) (spaced (get_or l i 0 ∷ [])))
 
   -- fewer numbers are no longer
-  pub length_spaced_take : (n : ℕ) → i ≤ n → length (spaced (take i l)) ≤ length (spaced (take n l))
-  length_spaced_take n h =
-      let e : i + (n - i) ≡ n = omega arith in
-      let t : take n l ≡ take i l ++ take (n - i) (drop i l) = ap (λ (m : ℕ). take m l) (sym e) ∙ take-add i (n - i) l in
-      let s : length (spaced (take n l)) ≡ length (spaced (take i l)) + length (spaced (take (n - i) (drop i l))) =
-      rw (t, spaced_append (take i l) (take (n - i) (drop i l))) (length-append (spaced (take i l)) (spaced (take (n - i) (drop i l)))) in
-      omega arith
+  pub length_spaced_take : length (spaced (take i l)) ≤ length (spaced l)
+  length_spaced_take =
+      let s : spaced l ≡ spaced (take i l) ++ spaced (drop i l) = ap spaced (sym (take-append-drop i l)) ∙ spaced_append (take i l) (drop i l) in
+      omega (arith, ap length s, length-append (spaced (take i l)) (spaced (drop i l)))
 
--- as many as there are, and k at most
-take_taken : (k : ℕ) (l : List ℕ) → take (length (take k l)) l ≡ take k l
-take_taken zero l = refl
-take_taken (suc k) [] = refl
-take_taken (suc k) (n ∷ l) = ap (λ (r : List ℕ). n ∷ r) (take_taken k l)
-
-pub take_min : (k : ℕ) (l : List ℕ) → take (min k (length l)) l ≡ take k l
-take_min k l = rw (← length-take k l) (take_taken k l)
+-- what is left of a room as the numbers are gone through
+pub fold_room : (l : List ℕ) (room : ℕ) → fold (λ left n. left - (1 + length (decimal n))) room l ≡ room - length (spaced l)
+unfolding spaced
+fold_room [] room = omega arith
+fold_room (n ∷ l) room = fold_room l (room - (1 + length (decimal n))) ∙ omega (arith, length-append (decimal n) (spaced l))
 
 pub length_text : (w l : List ℕ) → length (text_of w l) ≡ length w + length (spaced l) + 1
 length_text w l = simp length-append (omega arith)

@@ -1,34 +1,26 @@
 -- `text::put_numbers` meets its contract: after i turns the first i numbers are laid. Assumes nothing.
-use mathlib.Core.List.{[], ◌∷◌}
-use mathlib.Core.Path.{◌∙◌, refl}
-use Prim.Native.Nat.{◌+◌}
-use native.Mathlib.Omega.{arith}
-use lib.ListN.{get_or, take}
+use Rattle.std.proofs.Common.{[], ◌∷◌, ◌∙◌, ◌+◌, ◌≤◌, arith, length, take, get_or}
 use Rattle.endian.proofs.LaidLaws.{laid_of_laid}
 use Rattle.text.specs.Text.{spaced}
-use Rattle.text.proofs.SpacedLaws.{spaced_nil, length_spaced_nil, spaced_take_more, length_spaced_more, length_spaced_take, length_spaced_one}
+use Rattle.text.proofs.SpacedLaws.{spaced_nil, length_spaced_nil, spaced_take_more, length_spaced_more, length_spaced_take}
 use Rattle.decimal.proofs.WrittenLaws.{laid_of_nil}
 use Rattle.text.proofs.put_numbers.Goals as goal
 
-pub loop-i-init : goal.loop-i-init
-loop-i-init c = let a = c.args in
-    (omega arith, c.requires.n_in_bounds, c.requires.numbers_in_bounds, omega (arith, length_spaced_nil), refl, rw spaced_nil (laid_of_nil a.out.now a.place))
+pub loop-x-init : goal.loop-x-init
+loop-x-init c = record { place = omega (arith, length_spaced_nil); buffer = rw spaced_nil (laid_of_nil c.args.out.now c.args.place) }
 
 pub put_spaced-at-requires : goal.put_spaced-at-requires
-put_spaced-at-requires c = let a = c.args in
-    let i = c.loop-i.i in
-    omega (arith, length_spaced_one (get_or a.numbers.now i 0), length_spaced_more a.numbers.now i (omega arith), length_spaced_take a.numbers.now (i + 1) a.n (omega arith))
+put_spaced-at-requires c = let l = c.args.numbers.now in
+    let i = c.loop-x.x-index in
+    omega (arith, length_spaced_more l i (omega arith), length_spaced_take l (i + 1))
 
-pub loop-i-preserved : goal.loop-i-preserved
-loop-i-preserved c = let a = c.args in
-    let i = c.loop-i.i in
-    let x = get_or a.numbers.now i 0 in
-    let more = length_spaced_more a.numbers.now i (omega arith) in
-    let through = length_spaced_take a.numbers.now (i + 1) a.n (omega arith) in (
-      omega arith,
-      c.loop-i.invariant.1,
-      c.loop-i.invariant.2,
-      omega (arith, c.put_spaced-at.ensures.answer, length_spaced_one x),
-      c.put_spaced-at.auto.out ∙ c.loop-i.invariant.4,
-      c.put_spaced-at.ensures.buffer ∙ rw (c.loop-i.invariant.5, c.loop-i.invariant.3, spaced_take_more a.numbers.now i (omega arith)) (laid_of_laid a.out.now (spaced (take i a.numbers.now)) a.place (omega arith) (spaced (x ∷ []))),
-    )
+pub loop-x-preserved : goal.loop-x-preserved
+loop-x-preserved c = let a = c.args in
+    let l = a.numbers.now in
+    let i = c.loop-x.x-index in
+    let more = length_spaced_more l i (omega arith) in
+    let within : a.place + length (spaced (take i l)) ≤ length a.out.now = omega (arith, length_spaced_take l i) in
+    record {
+      place = omega (arith, c.put_spaced-at.ensures.answer);
+      buffer = c.put_spaced-at.ensures.buffer ∙ rw (c.loop-x.invariant.buffer, c.loop-x.invariant.place, spaced_take_more l i (omega arith)) (laid_of_laid a.out.now (spaced (take i l)) a.place within (spaced (get_or l i 0 ∷ [])));
+    }
