@@ -11,8 +11,9 @@ pub(crate) fn say(said: Said, numbers: &[u32], out: &mut [u8], place: usize) -> 
     ensures answer { result ≡ length (line_bytes (said_line said numbers.now)) }
     ensures buffer { out.new ≡ laid out.old place (line_bytes (said_line said numbers.now)) }
 {
-    match said {
+    let n = match said {
         Said::Words(w) => lines::write_line(w, out, place),
-        Said::Order(n) => lines::write_order(numbers, n, out, place),
-    }
+        Said::Order(n) => lines::write_order(&numbers[..n.min(numbers.len())], out, place),
+    };
+    n.unwrap()
 }

@@ -1,7 +1,7 @@
 -- What the contracts of the public functions say of a result, with the arguments in front and the result behind. A promise that is
 -- stated for all that meets one of these holds of all that the function can give. The code has the same words behind `ensures`: the
 -- functions of `witness` call it, and are proved to give what stands here.
-use Rattle.std.specs.Prelude.{◌≡◌, Bool, List, ℕ, length, take}
+use Rattle.std.specs.Prelude.{◌≡◌, Bool, List, ℕ, Option, length}
 use Rattle.endian.specs.Laid.{laid, stored}
 use Rattle.decimal.specs.Written.{written_count}
 use Rattle.orders.specs.declared.CheckAnswer.{CheckAnswer}
@@ -63,13 +63,12 @@ ReadGives l r = r ≡ read_answer (next_frame l)
 abbrev pub MessageGives : List ℕ → List ℕ → ℕ → messages.WriteAnswer → List ℕ → Type 0
 MessageGives b out place r after = (r ≡ write_answer b out place) × (after ≡ written b out place)
 
--- lines::write_line(words, out, place) and write_order(numbers, count, out, place)
-abbrev pub LineGives : Words → List ℕ → ℕ → ℕ → List ℕ → Type 0
+-- lines::write_line(words, out, place) and write_order(numbers, out, place)
+abbrev pub LineGives : Words → List ℕ → ℕ → Option ℕ → List ℕ → Type 0
 LineGives w out place n after = (n ≡ written_count out place (line_bytes (say w))) × (after ≡ stored out place (line_bytes (say w)))
 
-abbrev pub OrderGives : List ℕ → ℕ → List ℕ → ℕ → ℕ → List ℕ → Type 0
-OrderGives numbers count out place n after =
-    (n ≡ written_count out place (line_bytes (order (take count numbers)))) × (after ≡ stored out place (line_bytes (order (take count numbers))))
+abbrev pub OrderGives : List ℕ → List ℕ → ℕ → Option ℕ → List ℕ → Type 0
+OrderGives numbers out place n after = (n ≡ written_count out place (line_bytes (order numbers))) × (after ≡ stored out place (line_bytes (order numbers)))
 
 -- replies::reply(t, body)
 abbrev pub ReplyGives : Table → List ℕ → Replied → Type 0

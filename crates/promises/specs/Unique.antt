@@ -1,6 +1,6 @@
 -- Demand 1, its word `one`: two results that meet the contract of a public function are equal, table and lent memory too.
 -- proofs/ProvedUnique.antt has the proof.
-use Rattle.std.specs.Prelude.{◌≡◌, Bool, List, ℕ}
+use Rattle.std.specs.Prelude.{◌≡◌, Bool, List, ℕ, Option}
 use Rattle.paths.specs.Paths.{TellsCycle, TellsReached}
 use Rattle.kept.specs.Aligned.{Aligned}
 use Rattle.orders.specs.declared.CheckAnswer.{CheckAnswer}
@@ -27,9 +27,8 @@ pub record Unique : Type 0 where
   -- the answer, and what the lent buffer holds
   pub write : (flat : List ℕ) (place : ℕ) (out : List ℕ) (a b : WriteAnswer) (k l : List ℕ) → WriteGives flat place out a k → WriteGives flat place out b l → (a ≡ b) × (k ≡ l)
   pub message : (body out : List ℕ) (place : ℕ) (a b : messages.WriteAnswer) (k l : List ℕ) → MessageGives body out place a k → MessageGives body out place b l → (a ≡ b) × (k ≡ l)
-  pub line : (w : Words) (out : List ℕ) (place a b : ℕ) (k l : List ℕ) → LineGives w out place a k → LineGives w out place b l → (a ≡ b) × (k ≡ l)
-  pub order : (numbers : List ℕ) (count : ℕ) (out : List ℕ) (place a b : ℕ) (k l : List ℕ)
-      → OrderGives numbers count out place a k → OrderGives numbers count out place b l → (a ≡ b) × (k ≡ l)
+  pub line : (w : Words) (out : List ℕ) (place : ℕ) (a b : Option ℕ) (k l : List ℕ) → LineGives w out place a k → LineGives w out place b l → (a ≡ b) × (k ≡ l)
+  pub order : (numbers out : List ℕ) (place : ℕ) (a b : Option ℕ) (k l : List ℕ) → OrderGives numbers out place a k → OrderGives numbers out place b l → (a ≡ b) × (k ≡ l)
   pub reply : (t : Table) (body : List ℕ) (a b : Replied) → ReplyGives t body a → ReplyGives t body b → a ≡ b
   pub serve : (t : Table) (body out : List ℕ) (place : ℕ) (a b : Served) (k l : List ℕ) → ServeGives t body out place a k → ServeGives t body out place b l → (a ≡ b) × (k ≡ l)
   pub turn : (t : Table) (input : List ℕ) (last : Bool) (out : List ℕ) (a b : Turn) (k l : List ℕ) → TurnGives t input last out a k → TurnGives t input last out b l → (a ≡ b) × (k ≡ l)

@@ -6,6 +6,7 @@ use lib.ListN.{length, take, length-append, length-drop}
 use lib.Seq.{length-take-le}
 use borrow.Author.Tests.{le-leb}
 use native.Mathlib.Omega.{arith}
+use Rattle.std.specs.Prelude.{Some}
 use Rattle.endian.specs.Laid.{laid, stored}
 use Rattle.decimal.specs.Written.{written_count}
 use Rattle.lines.specs.Line.{refused_line, InRange}
@@ -22,7 +23,7 @@ served_room t b out place h = let e = le-leb (place + 358) (length out) h in (rw
 
 -- the last line, where there is room
 pub eleven_room : (out : List ℕ) (place : ℕ) → place + 358 ≤ length out
-    → (written_count out place eleven ≡ length eleven) × (stored out place eleven ≡ laid out place eleven) × (length eleven ≤ 358)
+    → (written_count out place eleven ≡ Some (length eleven)) × (stored out place eleven ≡ laid out place eleven) × (length eleven ≤ 358)
 unfolding eleven
 eleven_room out place h =
     let i : InRange (refused_line 11) = record { numbers = (omega arith, tt); few = omega arith } in

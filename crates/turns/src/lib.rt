@@ -28,12 +28,11 @@ fn last_line(table: Table, used: usize, out: &mut [u8], written: usize) -> Turn
     ensures answer { result ≡ turn_of table used (written + length eleven) true }
     ensures buffer { out.new ≡ laid out.old written eleven }
 {
-    let n = lines::write_line(Words::Refused(11), out, written);
-    let end = written + n;
+    let n = lines::write_line(Words::Refused(11), out, written).unwrap();
     Turn {
-        table: table,
-        used: used,
-        written: end,
+        table,
+        used,
+        written: written + n,
         over: true,
     }
 }

@@ -34,16 +34,16 @@ fn write_message(body: &[u8], out: &mut [u8], place: usize) -> WriteAnswer
     sending::write_message(body, out, place)
 }
 
-fn write_line(words: Words, out: &mut [u8], place: usize) -> usize
+fn write_line(words: Words, out: &mut [u8], place: usize) -> Option<usize>
     ensures gives { LineGives words out.old place result out.new }
 {
     lines::write_line(words, out, place)
 }
 
-fn write_order(numbers: &[u32], count: usize, out: &mut [u8], place: usize) -> usize
-    ensures gives { OrderGives numbers.now count out.old place result out.new }
+fn write_order(numbers: &[u32], out: &mut [u8], place: usize) -> Option<usize>
+    ensures gives { OrderGives numbers.now out.old place result out.new }
 {
-    lines::write_order(numbers, count, out, place)
+    lines::write_order(numbers, out, place)
 }
 
 fn reply(t: Table, body: &[u8]) -> Replied

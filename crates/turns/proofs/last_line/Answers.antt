@@ -1,38 +1,24 @@
 -- `turns::last_line` meets its contract. Assumes nothing.
-use mathlib.Core.Path.{◌≡◌, ◌∙◌, ap}
-use mathlib.Core.List.{List}
-use Prim.Native.Nat.{ℕ, ◌+◌, ◌≤◌}
-use lib.ListN.{length}
-use Rattle.endian.specs.Laid.{laid}
+use Rattle.std.proofs.Common.{◌≡◌, ◌∙◌, ap, rules, length, ◌+◌}
 use Rattle.turns.specs.Turn.{eleven}
 use Rattle.turns.specs.Struct.{turn_of}
 use mathlib.Core.Bool.{true}
 use Rattle.turns.proofs.RoomLaws.{eleven_room}
-use Rattle.turns.proofs.last_line.Goals.{After-slice_known-2-1}
 use Rattle.turns.proofs.last_line.Goals as goal
 
--- what the line that was written is
-module _ (c : After-slice_known-2-1) where
-  abbrev out : List ℕ
-  out = c.args.out.now
+pub unwrap-n-requires : goal.unwrap-n-requires
+unfolding eleven
+unwrap-n-requires c =
+    let q = c.write_line.ensures.answer ∙ (eleven_room c.args.out.now c.args.written c.requires).0 in search (rules, q)
 
-  abbrev place : ℕ
-  place = c.args.written
+pub returns-clause-answer : goal.returns-clause-answer
+unfolding eleven
+returns-clause-answer c =
+    let a = c.args in
+    let q = c.write_line.ensures.answer ∙ (eleven_room a.out.now a.written c.requires).0 in
+    let k : c.unwrap-n.result ≡ length eleven = cc (q, c.unwrap-n.ensures) in
+    ap (λ n. turn_of a.table a.used (a.written + n) true) k
 
-  room : place + 358 ≤ length out
-  room = c.requires
-
-  count : c.write_line-n.result ≡ length eleven
-  unfolding eleven
-  count = c.write_line-n.ensures.answer ∙ (eleven_room out place room).0
-
-  buffer : c.write_line-n.new.out ≡ laid out place eleven
-  unfolding eleven
-  buffer = c.write_line-n.ensures.buffer ∙ (eleven_room out place room).1
-
-pub returns : goal.returns
-returns c = let a = c.args in
-    record {
-      answer = ap (λ n. turn_of a.table a.used (a.written + n) true) (count ((goal.at.returns c).After-slice_known-2-1));
-      buffer = buffer ((goal.at.returns c).After-slice_known-2-1);
-    }
+pub returns-clause-buffer : goal.returns-clause-buffer
+unfolding eleven
+returns-clause-buffer c = c.write_line.ensures.buffer ∙ (eleven_room c.args.out.now c.args.written c.requires).1
