@@ -1,5 +1,6 @@
 -- Rows of tickets, and the arrow between two of them: which transaction a site put first. RULES, Graph and decision.
-use Rattle.std.specs.Prelude.{Bool, false, ◌&&◌, ◌||◌, List, [], ◌∷◌, ℕ, ◌<◌, ltb, get_or}
+use Rattle.std.specs.Prelude.{Bool, ◌&&◌, List, ℕ, ◌<◌, ltb, get_or}
+use Rattle.std.specs.List.{list_any, zip}
 
 -- what a transaction took at each site, from site 0 on; 0 is no ticket
 abbrev pub Tickets : Type 0
@@ -18,9 +19,7 @@ Arrow a b = (s : ℕ) × Before a b s
 
 -- the same, as a test that computes: at some site the two tickets pass
 abbrev pub any_site : (ℕ → ℕ → Bool) → Tickets → Tickets → Bool
-any_site f [] ys = false
-any_site f (x ∷ xs) [] = false
-any_site f (x ∷ xs) (y ∷ ys) = f x y || any_site f xs ys
+any_site f xs ys = list_any (λ p. f p.0 p.1) (zip xs ys)
 
 abbrev pub beforeb : ℕ → ℕ → Bool
 beforeb x y = ltb 0 x && ltb x y

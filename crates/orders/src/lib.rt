@@ -1,8 +1,11 @@
 // What the check of a proposed order and the writer of one answer; specs/ says when. RULES, Orders.
-
-// What the check answers: 13, yes or no (`check_reply` of specs/Reply.antt).
 #![tactic(auto)]
 
+pub use arrow::goes_before;
+
+mod arrow;
+
+// What the check answers: 13, yes or no (`check_reply` of specs/Reply.antt).
 #[derive(Drop)]
 pub enum CheckAnswer {
     Bad,
