@@ -9,8 +9,8 @@ use lib.ListN.{length}
 use borrow.Author.Tests.{eq-eqb, ne_eqb, le-leb, lt-leb}
 use Rattle.endian.specs.Bytes.{words}
 use Rattle.endian.proofs.WordsLaws.{length_words}
-use Rattle.orders.specs.declared.CheckAnswer.{CheckAnswer}
-use Rattle.orders.specs.declared.CheckAnswer.TheVariants.{Bad, Yes, No}
+use Rattle.std.specs.Prelude.{Result, Ok, Err}
+use Rattle.refusals.specs.declared.Refusal.{Refusal}
 use Rattle.orders.specs.Entries.{entries_in}
 use Rattle.orders.specs.Good.{goodb}
 use Rattle.orders.specs.Judged.{judged}
@@ -22,10 +22,10 @@ use Rattle.orders.proofs.GoodLaws.{goodb→good}
 use Rattle.orders.proofs.OrderLaws.{no_order_of_length}
 use Rattle.ccheck.specs.Answer.{answer_number, reply_number, byte_result}
 
-number_of_reply : (a : CheckAnswer) → reply_number (check_reply a) ≡ answer_number a
-number_of_reply Bad = refl
-number_of_reply Yes = refl
-number_of_reply No = refl
+number_of_reply : (a : Result Bool Refusal) → reply_number (check_reply a) ≡ answer_number a
+number_of_reply (Ok true) = refl
+number_of_reply (Ok false) = refl
+number_of_reply (Err r) = refl
 
 number_of_judged : (b c : Bool) → reply_number (judged (refused 13) yes no b c) ≡ judged 13 1 0 b c
 number_of_judged false c = refl
@@ -46,7 +46,7 @@ module _ (flat order : List ℕ) where
     result_of_many h = rw (eq-eqb (length order % 4) 0 w) (judged_of_wrong (goodb flat) (in_orderb (entries_in flat) (words order)) (λ e.
         no_order_of_length flat (words order) (λ l. omega (arith, (goodb→good flat e).few, length_words order))))
 
-    pub result_of_check : (a : CheckAnswer) → check_reply a ≡ check_result flat (words order) → answer_number a ≡ byte_result flat order
+    pub result_of_check : (a : Result Bool Refusal) → check_reply a ≡ check_result flat (words order) → answer_number a ≡ byte_result flat order
     unfolding check_result
     result_of_check a e = rw (eq-eqb (length order % 4) 0 w)
         (sym (number_of_reply a) ∙ ap reply_number e ∙ number_of_judged (goodb flat) (in_orderb (entries_in flat) (words order)))

@@ -1,8 +1,8 @@
 -- The number that the C call answers, from the check's answer and from the two tests. RULES, The C call.
-use Rattle.std.specs.Prelude.{◌&&◌, List, ℕ, ◌%◌, eqb, length}
+use Rattle.std.specs.Prelude.{Bool, true, false, ◌&&◌, List, ℕ, ◌%◌, eqb, length, Result, Ok, Err}
 use Rattle.endian.specs.Bytes.{words}
-use Rattle.orders.specs.declared.CheckAnswer.{CheckAnswer}
-use Rattle.orders.specs.declared.CheckAnswer.TheVariants.{Bad, Yes, No}
+use Rattle.refusals.specs.declared.Refusal.{Refusal}
+use Rattle.refusals.specs.Numbers.{number_of}
 use Rattle.orders.specs.Entries.{entries_in}
 use Rattle.orders.specs.Good.{goodb}
 use Rattle.orders.specs.Judged.{judged}
@@ -10,10 +10,10 @@ use Rattle.orders.specs.Reply.{Reply}
 use Rattle.orders.specs.Reply.Reply.{refused, yes, no, wrote}
 use Rattle.orders.specs.Order.{in_orderb}
 
-abbrev pub answer_number : CheckAnswer → ℕ
-answer_number Bad = 13
-answer_number Yes = 1
-answer_number No = 0
+abbrev pub answer_number : Result Bool Refusal → ℕ
+answer_number (Ok true) = 1
+answer_number (Ok false) = 0
+answer_number (Err r) = number_of r
 
 -- the same of the check's reply, which is never that something was written
 abbrev pub reply_number : Reply → ℕ

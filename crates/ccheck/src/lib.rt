@@ -11,15 +11,15 @@ ghost use Rattle.ccheck.specs.Answer.{answer_number, byte_result};
 use checker::check;
 use endian::get_words;
 use good::is_good;
-use orders::CheckAnswer;
+use refusals::Refusal;
 
-fn number_of(a: CheckAnswer) -> u32
+fn number_of(a: Result<bool, Refusal>) -> u32
     ensures answer { result ≡ answer_number a }
 {
     match a {
-        CheckAnswer::Bad => 13,
-        CheckAnswer::Yes => 1,
-        CheckAnswer::No => 0,
+        Ok(true) => 1,
+        Ok(false) => 0,
+        Err(refusal) => u32::from(refusal),
     }
 }
 

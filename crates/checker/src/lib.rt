@@ -7,31 +7,31 @@ ghost use Rattle.orders.specs.Reply.{check_reply};
 ghost use Rattle.orders.specs.Order.{check_result};
 
 use good::is_good;
-use orders::CheckAnswer;
 use places::{may_stand, row_of};
+use refusals::Refusal;
 use words::with;
 
 mod places;
 
-pub fn check(rows: &[u32], order: &[u32]) -> CheckAnswer
+pub fn check(rows: &[u32], order: &[u32]) -> Result<bool, Refusal>
     ensures answer { check_reply result ≡ check_result rows.now order.now }
 {
     if !is_good(rows) {
-        return CheckAnswer::Bad;
+        return Err(Refusal::BadRows);
     }
     // a number left out, or one too many
     if order.len() != rows.len() / 9 {
-        return CheckAnswer::No;
+        return Ok(false);
     }
     let mut placed: u32 = 0;
     let mut p: usize = 0;
     while p < order.len() {
         let i = row_of(rows, order[p]);
         if !may_stand(rows, placed, i) {
-            return CheckAnswer::No;
+            return Ok(false);
         }
         placed = with(placed, i);
         p += 1;
     }
-    CheckAnswer::Yes
+    Ok(true)
 }

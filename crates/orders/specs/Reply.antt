@@ -1,9 +1,7 @@
--- The answers of the check and of the writer, with the numbers that RULES gives them.
-use Rattle.std.specs.Prelude.{ℕ}
-use Rattle.orders.specs.declared.CheckAnswer.{CheckAnswer}
-use Rattle.orders.specs.declared.CheckAnswer.TheVariants.{Bad, Yes, No}
-use Rattle.orders.specs.declared.WriteAnswer.{WriteAnswer}
-use Rattle.orders.specs.declared.WriteAnswer.TheVariants.{Bad as BadTable, NoRoom, NoOrder, Wrote}
+-- The answers of the check and of the writer, with the numbers that RULES gives the refusals.
+use Rattle.std.specs.Prelude.{Bool, true, false, ℕ, Result, Ok, Err}
+use Rattle.refusals.specs.declared.Refusal.{Refusal}
+use Rattle.refusals.specs.Numbers.{number_of}
 
 pub data Reply : Type 0 where
   refused : ℕ → Reply
@@ -11,13 +9,11 @@ pub data Reply : Type 0 where
   no : Reply
   wrote : ℕ → Reply
 
-abbrev pub check_reply : CheckAnswer → Reply
-check_reply Bad = refused 13
-check_reply Yes = yes
-check_reply No = no
+abbrev pub check_reply : Result Bool Refusal → Reply
+check_reply (Ok true) = yes
+check_reply (Ok false) = no
+check_reply (Err r) = refused (number_of r)
 
-abbrev pub write_reply : WriteAnswer → Reply
-write_reply BadTable = refused 13
-write_reply NoRoom = refused 14
-write_reply NoOrder = refused 12
-write_reply (Wrote k) = wrote k
+abbrev pub write_reply : Result ℕ Refusal → Reply
+write_reply (Ok k) = wrote k
+write_reply (Err r) = refused (number_of r)

@@ -1,6 +1,6 @@
 -- The promises of demand 3, each from laws further down. Assumes nothing.
 use mathlib.Core.Path.{◌≡◌, refl, sym, ap, ◌∙◌}
-use mathlib.Core.Bool.{false, true≢false}
+use mathlib.Core.Bool.{true≢false}
 use mathlib.Core.Logic.{◌↔◌, ◌≢◌}
 use Prim.Native.Nat.{ℕ}
 use lib.Dec.{eqb}
@@ -11,8 +11,8 @@ use Rattle.orders.specs.Order.{InOrder}
 use Rattle.orders.specs.Reply.{Reply, check_reply, write_reply}
 use Rattle.orders.specs.Write.{Written}
 use Rattle.orders.specs.CCall.{GoodBytes, OrderBytes, call_result}
-use Rattle.orders.specs.declared.CheckAnswer.{CheckAnswer}
-use Rattle.orders.specs.declared.WriteAnswer.{WriteAnswer}
+use Rattle.std.specs.Prelude.{true, false, Ok, Err}
+use Rattle.refusals.specs.declared.Refusal.{Refusal}
 use Rattle.orders.proofs.ReplyLaws.{check_reply_injective, write_reply_injective, checked_of_result}
 use Rattle.orders.proofs.WriteLaws.{write_result_lem}
 use Rattle.orders.proofs.CCallLaws.{call_result_lem}
@@ -38,9 +38,9 @@ order_check flat o r g =
     let bn : Reply.refused 13 ≢ Reply.no = λ e. never (cc) in
     let yn : Reply.yes ≢ Reply.no = λ e. never (cc) in
     record {
-      bad = by_reply check_reply check_reply_injective r CheckAnswer.Bad (bad_iff (Reply.refused 13) Reply.yes Reply.no by bn yn (GoodRows flat) (InOrder (entries_in flat) o) (check_reply r) j);
-      yes = by_reply check_reply check_reply_injective r CheckAnswer.Yes (yes_iff (Reply.refused 13) Reply.yes Reply.no by bn yn (GoodRows flat) (InOrder (entries_in flat) o) (check_reply r) j);
-      no = by_reply check_reply check_reply_injective r CheckAnswer.No (no_iff (Reply.refused 13) Reply.yes Reply.no by bn yn (GoodRows flat) (InOrder (entries_in flat) o) (check_reply r) j);
+      bad = by_reply check_reply check_reply_injective r (Err Refusal.BadRows) (bad_iff (Reply.refused 13) Reply.yes Reply.no by bn yn (GoodRows flat) (InOrder (entries_in flat) o) (check_reply r) j);
+      yes = by_reply check_reply check_reply_injective r (Ok true) (yes_iff (Reply.refused 13) Reply.yes Reply.no by bn yn (GoodRows flat) (InOrder (entries_in flat) o) (check_reply r) j);
+      no = by_reply check_reply check_reply_injective r (Ok false) (no_iff (Reply.refused 13) Reply.yes Reply.no by bn yn (GoodRows flat) (InOrder (entries_in flat) o) (check_reply r) j);
     }
 
 differ : (a b : ℕ) → eqb a b ≡ false → a ≢ b
@@ -62,12 +62,12 @@ pub order_writer : OrderWriter
 order_writer flat place out r after g =
     let w : Written flat place out (write_reply r) after = rw (g.0, g.1) (write_result_lem flat place out) in
     record {
-      bad = by_reply write_reply write_reply_injective r WriteAnswer.Bad (bad_written flat place out (write_reply r) after w);
-      no_room = by_reply write_reply write_reply_injective r WriteAnswer.NoRoom (no_room_written flat place out (write_reply r) after w);
-      no_order = by_reply write_reply write_reply_injective r WriteAnswer.NoOrder (no_order_written flat place out (write_reply r) after w);
+      bad = by_reply write_reply write_reply_injective r (Err Refusal.BadRows) (bad_written flat place out (write_reply r) after w);
+      no_room = by_reply write_reply write_reply_injective r (Err Refusal.NoRoom) (no_room_written flat place out (write_reply r) after w);
+      no_order = by_reply write_reply write_reply_injective r (Err Refusal.NoOrder) (no_order_written flat place out (write_reply r) after w);
       wrote = (
         λ x. let (a, b, c) = wrote_written flat place out (write_reply r) after w x.0 (ap write_reply x.1) in (a, b, (c.0, c.2)),
-        λ x. let (n, e) = written_of_order flat place out (write_reply r) after w x.0 x.1 x.2 in (n, write_reply_injective r (WriteAnswer.Wrote n) e),
+        λ x. let (n, e) = written_of_order flat place out (write_reply r) after w x.0 x.1 x.2 in (n, write_reply_injective r (Ok n) e),
       );
       order = λ n e. (wrote_written flat place out (write_reply r) after w n (ap write_reply e)).2;
     }

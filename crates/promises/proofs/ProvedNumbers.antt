@@ -15,17 +15,18 @@ use Rattle.wire.specs.declared.reader.ReadAnswer.{ReadAnswer}
 use Rattle.wire.specs.Meaning.{NoBody, BodyMeans, ReadMeans, body_refusal, read_refusal}
 use Rattle.sending.specs.declared.WriteAnswer as messages
 use Rattle.sending.specs.Meaning.{WriteMeans, write_refusal}
-use Rattle.orders.specs.declared.CheckAnswer.{CheckAnswer}
-use Rattle.orders.specs.declared.WriteAnswer.{WriteAnswer}
 use Rattle.orders.specs.Good.{GoodRows}
 use Rattle.orders.specs.Reply.{Reply, check_reply, write_reply}
-use Rattle.orders.specs.Write.{Room}
+use Rattle.orders.specs.Judged.{Judged}
+use Rattle.orders.specs.Order.{Checked}
+use Rattle.orders.specs.Write.{Room, Written}
+use Rattle.orders.proofs.ReplyLaws.{checked_of_result}
+use Rattle.orders.proofs.WriteLaws.{write_result_lem}
 use Rattle.method.specs.Calls.{FirstHolds, NoneHolds}
 use Rattle.method.proofs.CallLaws.{first_unique, none_or_first}
-use Rattle.promises.specs.Demand3.{Checks, Writes, HasOrder}
+use Rattle.promises.specs.Demand3.{HasOrder}
 use Rattle.promises.specs.Numbers.{WrongInFront, Numbers}
 use Rattle.promises.proofs.Proved1.{refused_exactly}
-use Rattle.promises.proofs.Proved3.{order_check, order_writer}
 
 -- what a refusal, or that there is none, says of a list of conditions
 abbrev Tells : List (ℕ × Type 0) → Option ℕ → Type 0
@@ -100,17 +101,17 @@ by_reply cs r h k = (λ e. (told cs (refusal_of r) h k).0 (ap refusal_of e), λ 
     go Reply.no e = absurd (none-ne-some k e)
     go (Reply.wrote n) e = absurd (none-ne-some k e)
 
-check_tells : (flat o : List ℕ) (r : CheckAnswer) → Checks flat o r → Tells ((13, ¬ GoodRows flat) ∷ []) (refusal_of (check_reply r))
-check_tells flat o CheckAnswer.Bad c = inl (c.bad.0 refl, refl)
-check_tells flat o CheckAnswer.Yes c = (λ n. n (c.yes.0 refl).0, tt)
-check_tells flat o CheckAnswer.No c = (λ n. n (c.no.0 refl).0, tt)
+check_tells : (flat o : List ℕ) (x : Reply) → Checked flat o x → Tells ((13, ¬ GoodRows flat) ∷ []) (refusal_of x)
+check_tells flat o x (Judged.refuses e n) = rw e (inl (n, refl))
+check_tells flat o x (Judged.accepts e g r) = rw e ((λ n. n g), tt)
+check_tells flat o x (Judged.rejects e g r) = rw e ((λ n. n g), tt)
 
-order_tells : (flat : List ℕ) (place : ℕ) (out : List ℕ) (r : WriteAnswer) (after : List ℕ) → Writes flat place out r after
-    → Tells ((13, ¬ GoodRows flat) ∷ (14, ¬ Room flat place out) ∷ (12, ¬ HasOrder flat) ∷ []) (refusal_of (write_reply r))
-order_tells flat place out WriteAnswer.Bad after w = inl (w.bad.0 refl, refl)
-order_tells flat place out WriteAnswer.NoRoom after w = let h = w.no_room.0 refl in inr (λ n. n h.0, inl (h.1, refl))
-order_tells flat place out WriteAnswer.NoOrder after w = let h = w.no_order.0 refl in inr (λ n. n h.0, inr (λ n. n h.1, inl (h.2, refl)))
-order_tells flat place out (WriteAnswer.Wrote k) after w = let h = w.wrote.0 (k, refl) in ((λ n. n h.0), ((λ n. n h.1), ((λ n. n h.2), tt)))
+order_tells : (flat : List ℕ) (place : ℕ) (out : List ℕ) (x : Reply) (after : List ℕ) → Written flat place out x after
+    → Tells ((13, ¬ GoodRows flat) ∷ (14, ¬ Room flat place out) ∷ (12, ¬ HasOrder flat) ∷ []) (refusal_of x)
+order_tells flat place out x after (Written.bad e l g) = rw e (inl (g, refl))
+order_tells flat place out x after (Written.no_room e l g h) = rw e (inr ((λ n. n g), inl (h, refl)))
+order_tells flat place out x after (Written.no_order e l g h n) = rw e (inr ((λ n. n g), inr ((λ n. n h), inl (n, refl))))
+order_tells flat place out x after (Written.written o e l g h i s) = rw e ((λ n. n g), ((λ n. n h), ((λ n. n (o, i)), tt)))
 
 pub numbers : Numbers
 numbers = record {
@@ -118,6 +119,6 @@ numbers = record {
   frame = λ l r g. told ((11, Bad l) ∷ []) (frame_refusal r) (frame_tells l r (refused_exactly.frames l r g));
   read = λ l r w g. told ((11, Bad l) ∷ (10, WrongInFront l) ∷ []) (read_refusal r) (read_tells l r (refused_exactly.reads l r w g));
   message = λ b out place r after w g. told ((11, 160 < length b) ∷ (10, NoBody b) ∷ (14, length out < place + length (frame_of b)) ∷ []) (write_refusal r) (message_tells b out place r (refused_exactly.writes b out place r after w g));
-  check = λ flat o r g. by_reply ((13, ¬ (GoodRows flat)) ∷ []) (check_reply r) (check_tells flat o r (order_check flat o r g));
-  order = λ flat place out r after g. by_reply ((13, ¬ (GoodRows flat)) ∷ (14, ¬ (Room flat place out)) ∷ (12, ¬ (HasOrder flat)) ∷ []) (write_reply r) (order_tells flat place out r after (order_writer flat place out r after g));
+  check = λ flat o r g. by_reply ((13, ¬ (GoodRows flat)) ∷ []) (check_reply r) (check_tells flat o (check_reply r) (checked_of_result flat o r g));
+  order = λ flat place out r after g. by_reply ((13, ¬ (GoodRows flat)) ∷ (14, ¬ (Room flat place out)) ∷ (12, ¬ (HasOrder flat)) ∷ []) (write_reply r) (order_tells flat place out (write_reply r) after (rw (g.0, g.1) (write_result_lem flat place out)));
 }

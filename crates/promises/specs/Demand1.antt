@@ -1,10 +1,10 @@
 -- Demand 1: every message and call, however malformed or out of turn, gets its one listed answer, and a refused call leaves the table and
 -- all lent memory as before. proofs/Proved1.antt has a proof of each.
-use Rattle.std.specs.Prelude.{◌≡◌, Bool, true, false, cond, List, [], ◌∷◌, ◌++◌, ◌↔◌, ◌≢◌, ◌⊎◌, ℕ, ◌+◌, ◌-◌, ◌<◌, ◌≤◌, length, take, drop}
+use Rattle.std.specs.Prelude.{◌≡◌, Bool, true, false, cond, List, [], ◌∷◌, ◌++◌, ◌↔◌, ◌≢◌, ◌⊎◌, ℕ, ◌+◌, ◌-◌, ◌<◌, ◌≤◌, length, take, drop, Result}
 use Rattle.std.proofs.Math.Option.{Option, none, some}
 use Rattle.endian.specs.Places.{Below}
 use Rattle.graph.specs.Lists.{◌∈◌}
-use Rattle.orders.specs.declared.WriteAnswer.{WriteAnswer}
+use Rattle.refusals.specs.declared.Refusal.{Refusal}
 use Rattle.orders.specs.Reply.{Reply, write_reply}
 use Rattle.wire.specs.declared.reader.BodyAnswer.{BodyAnswer}
 use Rattle.frames.specs.declared.FrameAnswer.{FrameAnswer}
@@ -62,7 +62,7 @@ Answered = (t : Table) (c : Call) (a : Answer) (u : Table) → CallGives t c a u
 -- a refusal leaves everything as it was: the table of a call, the buffer of the order's writer and of the message's
 pub record RefusedKeeps : Type 0 where
   pub calls : (t : Table) (c : Call) (a : Answer) (u : Table) → CallGives t c a u → (k : ℕ) → a ≡ Answer.Refused k → u ≡ t
-  pub orders : (flat : List ℕ) (place : ℕ) (out : List ℕ) (r : WriteAnswer) (after : List ℕ) → WriteGives flat place out r after → (k : ℕ) → write_reply r ≡ Reply.refused k → after ≡ out
+  pub orders : (flat : List ℕ) (place : ℕ) (out : List ℕ) (r : Result ℕ Refusal) (after : List ℕ) → WriteGives flat place out r after → (k : ℕ) → write_reply r ≡ Reply.refused k → after ≡ out
   pub messages : (b out : List ℕ) (place : ℕ) (r : messages.WriteAnswer) (after : List ℕ) → MessageGives b out place r after → (k : ℕ) → write_refusal r ≡ some k → after ≡ out
   -- where the longest line would not fit nothing is served
   pub roomless : (t : Table) (b out : List ℕ) (place : ℕ) (r : Served) (after : List ℕ) → ServeGives t b out place r after → length out < place + 358

@@ -1,6 +1,6 @@
 -- Demand 3: an order is accepted exactly by the rule, our writer gives one whenever one exists and there is room, and for every sequence
 -- of calls an order exists for all committed since the opening, forgotten ones too. proofs/Proved3.antt has a proof of each.
-use Rattle.std.specs.Prelude.{◌≡◌, List, ◌∷◌, ◌++◌, ◌↔◌, ℕ, ◌+◌, ◌<◌, length, take, drop}
+use Rattle.std.specs.Prelude.{◌≡◌, List, ◌∷◌, ◌++◌, ◌↔◌, ℕ, ◌+◌, ◌<◌, length, take, drop, Bool, true, false, Result, Ok, Err}
 use Rattle.graph.specs.Lists.{◌∈◌}
 use Rattle.graph.specs.Smallest.{SmallestFirst}
 use Rattle.orders.specs.Arrow.{ticket_at}
@@ -9,8 +9,7 @@ use Rattle.orders.specs.Good.{Apart, GoodRows}
 use Rattle.orders.specs.Order.{InOrder}
 use Rattle.orders.specs.Write.{Room}
 use Rattle.orders.specs.CCall.{GoodBytes, OrderBytes}
-use Rattle.orders.specs.declared.CheckAnswer.{CheckAnswer}
-use Rattle.orders.specs.declared.WriteAnswer.{WriteAnswer}
+use Rattle.refusals.specs.declared.Refusal.{Refusal}
 use Rattle.method.specs.Records.{closed}
 use Rattle.method.specs.Slots.{kept_entries, kept_flat}
 use Rattle.method.specs.Conditions.{Closed}
@@ -25,13 +24,13 @@ use Rattle.turns.specs.Lines.{lines_of}
 use Rattle.promises.specs.Stated.{CheckGives, CCheckGives, WriteGives}
 
 -- the check: 13 exactly for a bad table, and of a good one yes exactly for an order by the rule
-pub record Checks (flat o : List ℕ) (r : CheckAnswer) : Type 0 where
-  pub bad : (r ≡ CheckAnswer.Bad) ↔ (¬ GoodRows flat)
-  pub yes : (r ≡ CheckAnswer.Yes) ↔ (GoodRows flat × InOrder (entries_in flat) o)
-  pub no : (r ≡ CheckAnswer.No) ↔ (GoodRows flat × (¬ InOrder (entries_in flat) o))
+pub record Checks (flat o : List ℕ) (r : Result Bool Refusal) : Type 0 where
+  pub bad : (r ≡ Err Refusal.BadRows) ↔ (¬ GoodRows flat)
+  pub yes : (r ≡ Ok true) ↔ (GoodRows flat × InOrder (entries_in flat) o)
+  pub no : (r ≡ Ok false) ↔ (GoodRows flat × (¬ InOrder (entries_in flat) o))
 
 abbrev pub OrderCheck : Type 0
-OrderCheck = (flat o : List ℕ) (r : CheckAnswer) → CheckGives flat o r → Checks flat o r
+OrderCheck = (flat o : List ℕ) (r : Result Bool Refusal) → CheckGives flat o r → Checks flat o r
 
 -- the same check as a C program calls it, on any two lists of bytes
 pub record CChecks (rows o : List ℕ) (n : ℕ) : Type 0 where
@@ -47,17 +46,17 @@ abbrev pub HasOrder : List ℕ → Type 0
 HasOrder flat = (o : List ℕ) × InOrder (entries_in flat) o
 
 -- the writer: 13, 14 and 12 in this sequence, each exactly under its condition and with the buffer as before; else an order
-pub record Writes (flat : List ℕ) (place : ℕ) (out : List ℕ) (r : WriteAnswer) (after : List ℕ) : Type 0 where
-  pub bad : (r ≡ WriteAnswer.Bad) ↔ (¬ GoodRows flat)
-  pub no_room : (r ≡ WriteAnswer.NoRoom) ↔ (GoodRows flat × (¬ Room flat place out))
-  pub no_order : (r ≡ WriteAnswer.NoOrder) ↔ (GoodRows flat × Room flat place out × (¬ HasOrder flat))
-  pub wrote : ((n : ℕ) × (r ≡ WriteAnswer.Wrote n)) ↔ (GoodRows flat × Room flat place out × HasOrder flat)
+pub record Writes (flat : List ℕ) (place : ℕ) (out : List ℕ) (r : Result ℕ Refusal) (after : List ℕ) : Type 0 where
+  pub bad : (r ≡ Err Refusal.BadRows) ↔ (¬ GoodRows flat)
+  pub no_room : (r ≡ Err Refusal.NoRoom) ↔ (GoodRows flat × (¬ Room flat place out))
+  pub no_order : (r ≡ Err Refusal.NoOrder) ↔ (GoodRows flat × Room flat place out × (¬ HasOrder flat))
+  pub wrote : ((n : ℕ) × (r ≡ Ok n)) ↔ (GoodRows flat × Room flat place out × HasOrder flat)
   -- what was written: an order, the smallest number that may stand there at each place, and every other entry as it was
-  pub order : (n : ℕ) → r ≡ WriteAnswer.Wrote n
+  pub order : (n : ℕ) → r ≡ Ok n
       → (o : List ℕ) × (length o ≡ n) × InOrder (entries_in flat) o × SmallestFirst EntryArrow number_of (entries_in flat) o × (after ≡ take place out ++ (o ++ drop (place + n) out))
 
 abbrev pub OrderWriter : Type 0
-OrderWriter = (flat : List ℕ) (place : ℕ) (out : List ℕ) (r : WriteAnswer) (after : List ℕ) → WriteGives flat place out r after → Writes flat place out r after
+OrderWriter = (flat : List ℕ) (place : ℕ) (out : List ℕ) (r : Result ℕ Refusal) (after : List ℕ) → WriteGives flat place out r after → Writes flat place out r after
 
 -- all that a run committed, forgotten ones too
 pub record HistoryOf (r : Run) : Type 0 where

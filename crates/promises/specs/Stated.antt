@@ -1,11 +1,10 @@
 -- What the contracts of the public functions say of a result, with the arguments in front and the result behind. A promise that is
 -- stated for all that meets one of these holds of all that the function can give. The code has the same words behind `ensures`: the
 -- functions of `witness` call it, and are proved to give what stands here.
-use Rattle.std.specs.Prelude.{◌≡◌, Bool, List, ℕ, Option, length}
+use Rattle.std.specs.Prelude.{◌≡◌, Bool, List, ℕ, Option, length, take, Result}
 use Rattle.endian.specs.Laid.{laid, stored}
 use Rattle.decimal.specs.Written.{written_count}
-use Rattle.orders.specs.declared.CheckAnswer.{CheckAnswer}
-use Rattle.orders.specs.declared.WriteAnswer.{WriteAnswer}
+use Rattle.refusals.specs.declared.Refusal.{Refusal}
 use Rattle.orders.specs.Reply.{check_reply, write_reply}
 use Rattle.orders.specs.Order.{check_result}
 use Rattle.orders.specs.Write.{write_result}
@@ -39,14 +38,14 @@ abbrev pub CallGives : Table → Call → Answer → Table → Type 0
 CallGives t c a u = (a ≡ answer_to t c) × (u ≡ table_after t c)
 
 -- checker::check(rows, order); ccheck::order_check(rows, order), on bytes
-abbrev pub CheckGives : List ℕ → List ℕ → CheckAnswer → Type 0
+abbrev pub CheckGives : List ℕ → List ℕ → Result Bool Refusal → Type 0
 CheckGives flat o r = check_reply r ≡ check_result flat o
 
 abbrev pub CCheckGives : List ℕ → List ℕ → ℕ → Type 0
 CCheckGives rows o n = n ≡ call_result rows o
 
 -- writer::write(rows, place, out): the answer, and the buffer afterwards
-abbrev pub WriteGives : List ℕ → ℕ → List ℕ → WriteAnswer → List ℕ → Type 0
+abbrev pub WriteGives : List ℕ → ℕ → List ℕ → Result ℕ Refusal → List ℕ → Type 0
 WriteGives flat place out r after = (write_reply r ≡ (write_result flat place out).0) × (after ≡ (write_result flat place out).1)
 
 -- wire::reader::read_body(body), frames::read_frame(msg), wire::reader::read_message(msg)

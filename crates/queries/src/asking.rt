@@ -5,11 +5,11 @@ ghost use Rattle.orders.specs.Order.{check_result};
 ghost use Rattle.orders.specs.Reply.{check_reply, write_reply};
 ghost use Rattle.orders.specs.Write.{write_result};
 
-use orders::{CheckAnswer, WriteAnswer};
+use refusals::Refusal;
 use table::Table;
 
 // Is it an order of the kept rows?
-pub(crate) fn check_kept(t: Table, order: &[u32]) -> CheckAnswer
+pub(crate) fn check_kept(t: Table, order: &[u32]) -> Result<bool, Refusal>
     ensures answer { check_reply result ≡ check_result (kept_flat t.held) order.now }
 {
     let k = table::kept_rows(t);
@@ -19,7 +19,7 @@ pub(crate) fn check_kept(t: Table, order: &[u32]) -> CheckAnswer
 }
 
 // Writes an order of them at the front, as `writer::write` does. There are at most 32 by the table's type; said here, for callers.
-pub(crate) fn write_kept(t: Table, out: &mut [u32]) -> WriteAnswer
+pub(crate) fn write_kept(t: Table, out: &mut [u32]) -> Result<usize, Refusal>
     ensures answer { write_reply result ≡ (write_result (kept_flat t.held) 0 out.old).0 }
     ensures buffer { out.new ≡ (write_result (kept_flat t.held) 0 out.old).1 }
     ensures few { length (kept_flat t.held) ≤ 288 }

@@ -13,7 +13,7 @@ ghost use Rattle.queries.specs.Said.{spoken_of, reply_said};
 
 use asking::{check_kept, write_kept};
 use lines::Words;
-use orders::{CheckAnswer, WriteAnswer};
+use refusals::Refusal;
 use table::Table;
 
 mod asking;
@@ -55,13 +55,13 @@ fn if_open(t: Table, s: Spoken) -> Spoken
 }
 
 // What the check answered.
-fn judged(a: CheckAnswer) -> Words
+fn judged(a: Result<bool, Refusal>) -> Words
     ensures answer { saids.Said.Words result ≡ reply_said (check_reply a) }
 {
     match a {
-        CheckAnswer::Bad => Words::Refused(13),
-        CheckAnswer::Yes => Words::Good,
-        CheckAnswer::No => Words::Bad,
+        Ok(true) => Words::Good,
+        Ok(false) => Words::Bad,
+        Err(refusal) => Words::Refused(u32::from(refusal)),
     }
 }
 
@@ -74,15 +74,13 @@ pub fn judge(t: Table, numbers: &[u32]) -> Spoken
 }
 
 // What the writer answered.
-fn written(a: WriteAnswer) -> Said
+fn written(a: Result<usize, Refusal>) -> Said
     ensures answer { result ≡ reply_said (write_reply a) }
 {
     match a {
-        WriteAnswer::Bad => Said::Words(Words::Refused(13)),
-        // never: no more rows are kept than there are entries
-        WriteAnswer::NoRoom => Said::Words(Words::Refused(14)),
-        WriteAnswer::NoOrder => Said::Words(Words::Refused(12)),
-        WriteAnswer::Wrote(n) => Said::Order(n),
+        Ok(n) => Said::Order(n),
+        // 14 never: no more rows are kept than there are entries
+        Err(refusal) => Said::Words(Words::Refused(u32::from(refusal))),
     }
 }
 

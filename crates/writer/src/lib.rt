@@ -7,8 +7,8 @@ ghost use Rattle.orders.specs.Reply.{write_reply};
 ghost use Rattle.orders.specs.Write.{write_result};
 
 use good::is_good;
-use orders::WriteAnswer;
 use picks::pick;
+use refusals::Refusal;
 
 mod picks;
 
@@ -35,7 +35,7 @@ fn has_room(len: usize, place: usize, n: usize) -> bool
 }
 
 // Writes an order of the rows from the place on, and says how many numbers it wrote; or refuses, and leaves the buffer as it is.
-pub fn write(rows: &[u32], place: usize, out: &mut [u32]) -> WriteAnswer
+pub fn write(rows: &[u32], place: usize, out: &mut [u32]) -> Result<usize, Refusal>
     ensures answer { write_reply result ≡ (write_result rows.now place out.old).0 }
     ensures buffer { out.new ≡ (write_result rows.now place out.old).1 }
 {
@@ -43,7 +43,7 @@ pub fn write(rows: &[u32], place: usize, out: &mut [u32]) -> WriteAnswer
     let n = rows.len() / 9;
     let room = has_room(out.len(), place, n);
     if !good {
-        return WriteAnswer::Bad;
+        return Err(Refusal::BadRows);
     }
     // picked apart from the buffer, which a refusal leaves as it is
     let p = pick(rows);
@@ -51,11 +51,11 @@ pub fn write(rows: &[u32], place: usize, out: &mut [u32]) -> WriteAnswer
     let numbers = p.numbers;
     let full = n <= count;
     if !room {
-        return WriteAnswer::NoRoom;
+        return Err(Refusal::NoRoom);
     }
     if !full {
-        return WriteAnswer::NoOrder;
+        return Err(Refusal::NoOrder);
     }
     lay(&mut out[place..], numbers, n);
-    WriteAnswer::Wrote(n)
+    Ok(n)
 }
