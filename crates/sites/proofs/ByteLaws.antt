@@ -93,7 +93,7 @@ sites_first x n h = go (sites_of x) (λ e. n (zero_of_no_sites x h e))
     go [] e = absurd (e refl)
     go (s ∷ ss) e = refl
 
--- a turn of `while left != 0 { let s = u8::trailing_zeros(left) as usize; ..; left = left & (left - 1); }`
+-- a turn of a walk, as `next` of src/walk.rt takes it
 pub turn : (x : ℕ) → (x ≡ 0 → ⊥) → x < 256 → Turn x
 turn x n h = record { site = lt_of_member x (rw walk (here refl)); falls = omega (arith, and_le_r x (x - 1)); step = walk }
   where

@@ -1,7 +1,8 @@
 -- Which sites a set has, for any number x: `listed`, `sites_of` and `Outside` say the same of it. Assumes nothing.
 use mathlib.Core.Path.{◌≡◌, refl}
 use mathlib.Core.Bool.{true, false}
-use mathlib.Core.List.{[], ◌∷◌}
+use mathlib.Core.List.Memᴰ.{head as here}
+use mathlib.Core.List.{List, [], ◌∷◌}
 use Prim.Native.Nat.{ℕ, ◌/◌, ◌%◌, ◌^◌, ◌<◌, ◌≤◌}
 use native.Mathlib.Omega.{arith}
 use lib.Dec.{eqb, ltb, leb}
@@ -71,3 +72,7 @@ not_outside_past x n h = false_of_not_true (outsideb x n) (λ e. refuted (outsid
   where
     refuted : Outside x n → ⊥
     refuted (s, m, k) = let g = lt_of_member x m in omega arith
+
+-- what a walk gives next is one of the eight
+pub first_lt : (x s : ℕ) (l : List ℕ) → sites_of x ≡ s ∷ l → s < 8
+first_lt x s l e = lt_of_member x (rw e (here refl))

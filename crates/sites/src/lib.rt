@@ -1,13 +1,18 @@
 // The set of sites of a transaction, eight bits in a byte, bit i for site i (RULES, The table): which sites it has,
 // and how many. The definitions are in specs/Sites.antt.
 //
-// A loop that visits the sites, lowest first, is written
-//     while left != 0 { let s = u8::trailing_zeros(left) as usize; ..; left = left & (left - 1); }
-// and its proof cites `turn` of proofs/ByteLaws.antt: what was left is s, and then what is left now.
+// A loop that visits the sites, lowest first, is `for s in sites::each(x)`. That each of them is below 8 is `first_lt` of
+// proofs/SitesLaws.antt, and that there are eight at most is `used_le` there.
 #![tactic(auto)]
 
 ghost use Rattle.std.specs.Prelude.{◌≡◌};
 ghost use Rattle.sites.specs.Sites.{listed, sites_used, outsideb};
+
+#[cfg(test)]
+mod tests;
+mod walk;
+
+pub use walk::{SitesLeft, each};
 
 // Is site i in the set? Any i may be asked about: a message can name one up to 255.
 pub fn has_site(x: u8, i: u8) -> bool
