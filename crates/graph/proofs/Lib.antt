@@ -1,3 +1,4 @@
+pub mod ArrayLaws
 pub mod TestLaws
 pub mod MemberLaws
 pub mod PlaceLaws

@@ -1,8 +1,9 @@
 // The records of a table: a slot's state, a free row, a call refused, a slot freed. RULES, The table.
 #![tactic(auto)]
 
-ghost use Rattle.std.specs.Prelude.{◌≡◌};
-ghost use Rattle.method.specs.Records.{is_free, is_active, is_committed, free_row, with_row};
+ghost use Rattle.std.specs.Prelude.{◌≡◌, map};
+ghost use Rattle.method.specs.declared.Part.{Part as Parts};
+ghost use Rattle.method.specs.Records.{is_free, is_active, is_committed, free_row, with_row, tickets_of};
 ghost use Rattle.method.specs.Effects.{answered};
 
 use method::{Answer, Answered, Number, Part, Row, SITES, SLOTS, Stage, State, Table, Ticket};
@@ -35,6 +36,21 @@ pub fn is_committed(s: State) -> bool
         State::Active => false,
         State::Committed => true,
     }
+}
+
+// The tickets of parts that stand alone: behind a reference to a row a proof does not see how many there are.
+fn tickets_in(parts: &[Part; SITES]) -> [u32; SITES]
+    ensures answer { result ≡ map (λ (p : Parts). p.ticket.0) parts.now }
+{
+    parts.map(|p| p.ticket.0)
+}
+
+// The tickets of a row, site by site.
+#[tactic(auto, unfolding(method::specs::Records::tickets_of))]
+pub fn tickets_of(r: &Row) -> [u32; SITES]
+    ensures answer { result ≡ tickets_of r.now }
+{
+    tickets_in(&r.parts)
 }
 
 // What a slot holds while no transaction has it.
