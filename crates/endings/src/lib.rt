@@ -35,10 +35,10 @@ pub fn forget(t: Table, n: Number) -> Answered
             if !records::is_committed(state) {
                 return records::refuse(t, 4);
             }
-            if blockers::has_pred(t, row) {
+            if blockers::has_pred(&t, &row) {
                 return records::refuse(t, 9);
             }
-            if blockers::is_held_back(t, row) {
+            if blockers::is_held_back(&t, &row) {
                 return records::refuse(t, 9);
             }
             records::without(t, slot)

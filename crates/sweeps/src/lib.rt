@@ -19,7 +19,7 @@ fn held(t: Table) -> [bool; 32]
         let row = t.rows[i];
         let state = row.state;
         if records::is_committed(state) {
-            let b = blockers::is_held_back(t, row);
+            let b = blockers::is_held_back(&t, &row);
             marks[i] = b;
         }
         i += 1;
