@@ -19,7 +19,7 @@ fn commit(t: Table, slot: usize, n: Number) -> Answered
     let x = row.sites;
     let parts = row.parts;
     let last = t.last;
-    let high = parts::raised(t.high, row);
+    let high = parts::raised(t.high, &row);
     let done = Row {
         state: State::Committed,
         number: number,
@@ -56,7 +56,7 @@ pub fn decide(t: Table, n: Number) -> Answered
         Gate::Refused(k) => records::refuse(t, k),
         Gate::At(slot) => {
             let row = t.rows[slot];
-            if !parts::is_prepared(row) {
+            if !parts::is_prepared(&row) {
                 return records::refuse(t, 4);
             }
             let flat = kept::aligned::tickets(t, slot);

@@ -1,1 +1,1 @@
-pub mod PreparedLaws
+pub mod AllLaws

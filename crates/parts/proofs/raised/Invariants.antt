@@ -1,12 +1,7 @@
-use mathlib.Core.Path.{◌≡◌}
-use Prim.Native.Nat.{◌<◌}
-use lib.ListN.{length}
+use Rattle.std.proofs.Common.{◌≡◌, length}
 use Rattle.sites.specs.Sites.{sites_of}
 use Rattle.method.specs.Effects.{raised}
 use Rattle.parts.proofs.raised.Given as goal
 
-abbrev pub invariant-loop-left : goal.invariant-loop-left
-invariant-loop-left l = (l.left < 256) × (raised l.row (sites_of l.row.sites) l.initial.tops ≡ raised l.row (sites_of l.left) l.tops) × (length l.tops ≡ 8)
-
-abbrev pub decreases-loop-left : goal.decreases-loop-left
-decreases-loop-left l = l.left
+abbrev pub invariant-loop-s : goal.invariant-loop-s
+invariant-loop-s l = (raised l.row (sites_of l.row.sites) l.initial.high ≡ raised l.row (sites_of l.s-iterator.left) l.high) × (length l.high ≡ 8)
