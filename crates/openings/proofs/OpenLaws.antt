@@ -2,23 +2,19 @@
 use mathlib.Core.Path.{◌≡◌, refl, ap}
 use mathlib.Core.Bool.{true, false}
 use mathlib.Core.List.{List, [], ◌∷◌}
-use mathlib.Core.Logic.{◌⊎◌, inl, inr}
-use Prim.Native.Nat.{ℕ, zero, suc, ◌+◌, ◌<◌, ◌≤◌}
+use Prim.Native.Nat.{ℕ, zero, suc, ◌+◌, ◌<◌}
 use native.Mathlib.Omega.{arith}
 use native.Mathlib.Numerals.{add-one}
 use lib.ListN.{length, get_or, set, take}
-use lib.Dec.{eqb, ltb}
-use borrow.Author.Tests.{eq-eqb, ne_eqb, lt-ltb, le-ltb, eqb-false, ltb-true, ltb-false, eqb-true}
-use Rattle.graph.proofs.TestLaws.{true_or_false, true_not_false}
+use borrow.Author.Tests.{eq-eqb, ne_eqb}
 use Rattle.method.specs.declared.Ticket.{Ticket}
 use Rattle.method.specs.declared.Table.{Table}
 use Rattle.method.specs.declared.Answer.{Answer}
-use Rattle.method.specs.Conditions.{BadOpening, bad_opening}
+use Rattle.method.specs.Conditions.{bad_opening}
 use Rattle.method.specs.Calls.{checks}
 use Rattle.method.specs.Calls.Call.{open_with}
 use Rattle.method.specs.Records.{ticket}
 use Rattle.method.specs.Effects.{padded, opened, answered, effect, step}
-use Rattle.method.proofs.ConditionLaws.{bad_opening_iff}
 use Rattle.method.proofs.CheckLaws.{stopped, unstopped, first_true_lem, first_false}
 
 next : (k : ℕ) (fs : List ℕ) (i : ℕ) → i < length fs → i < k → set (padded k (take i fs)) i (ticket (get_or fs i 0)) ≡ padded k (take (suc i) fs)
@@ -30,30 +26,6 @@ next (suc k) (f ∷ fs) (suc i) h l = ap {B = List Ticket} (λ ts. ticket f ∷ 
 
 pub padded_set : (k : ℕ) (fs : List ℕ) (i : ℕ) → i < length fs → i < k → set (padded k (take i fs)) i (ticket (get_or fs i 0)) ≡ padded k (take (i + 1) fs)
 padded_set k fs i h l = rw (add-one i) (next k fs i h l)
-
-module _ (n : ℕ) (fs : List ℕ) where
-  pub bad_of_none : length fs ≡ 0 → bad_opening n fs ≡ true
-  bad_of_none e = rw (eq-eqb (length fs) 0 e)
-
-  pub bad_of_many : (length fs ≡ 0 → ⊥) → 8 < length fs → bad_opening n fs ≡ true
-  bad_of_many z h = rw (ne_eqb (length fs) 0 z, lt-ltb 8 (length fs) h)
-
-  pub bad_of_some : (length fs ≡ 0 → ⊥) → length fs ≤ 8 → bad_opening n fs ≡ eqb n 0
-  bad_of_some z h = rw (ne_eqb (length fs) 0 z, le-ltb 8 (length fs) h)
-
-  good : bad_opening n fs ≡ false → ¬ BadOpening n fs
-  good e b = true_not_false ((bad_opening_iff n fs).1 b) e
-
-  pub good_opening : bad_opening n fs ≡ false → (length fs ≤ 8) × (0 < n)
-  good_opening e = (few (true_or_false (ltb 8 (length fs))), some (true_or_false (eqb n 0)))
-    where
-      few : (ltb 8 (length fs) ≡ true) ⊎ (ltb 8 (length fs) ≡ false) → length fs ≤ 8
-      few (inl h) = absurd (good e (inr (inl (ltb-true 8 (length fs) h))))
-      few (inr h) = ltb-false 8 (length fs) h
-
-      some : (eqb n 0 ≡ true) ⊎ (eqb n 0 ≡ false) → 0 < n
-      some (inl h) = absurd (good e (inr (inr (eqb-true n 0 h))))
-      some (inr h) = let z = eqb-false n 0 h in omega (arith, z)
 
 module _ (t : Table) (n : ℕ) (fs : List ℕ) where
   pub open_twice : (t.sites ≡ 0 → ⊥) → step t (open_with n fs) ≡ answered t (Answer.Refused 4)

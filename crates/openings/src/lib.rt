@@ -13,14 +13,11 @@ use method::{Answer, Answered, Number, SITES, SLOTS, Table, Ticket};
 pub fn closed() -> Table
     ensures answer { result ≡ closedTable }
 {
-    let free = records::free_row();
-    let high = [Ticket(0); SITES];
-    let rows = [free; SLOTS];
     Table {
         sites: 0,
         last: Number(0),
-        high: high,
-        rows: rows,
+        high: [Ticket(0); SITES],
+        rows: [records::free_row(); SLOTS],
     }
 }
 
@@ -28,45 +25,33 @@ pub fn closed() -> Table
 fn is_bad_opening(first: Number, floors: &[u32]) -> bool
     ensures answer { result ≡ bad_opening first.0 floors.now }
 {
-    if floors.len() == 0 {
-        return true;
-    }
-    if SITES < floors.len() {
-        return true;
-    }
-    first.0 == 0
+    floors.is_empty() || floors.len() > SITES || first == Number(0)
 }
 
 // The floors, and zeros for the sites that the table lacks.
+#[tactic(auto, unfolding(method::specs::Effects::padded))]
 fn padded(floors: &[u32]) -> [Ticket; SITES]
     requires { length floors.now ≤ 8 }
     ensures answer { result ≡ paddedTickets 8 floors.now }
 {
     let mut high = [Ticket(0); SITES];
-    let mut i: usize = 0;
-    while i < floors.len() {
-        let f = Ticket(floors[i]);
-        high[i] = f;
-        i += 1;
+    for (s, floor) in floors.iter().enumerate() {
+        high[s] = Ticket(*floor);
     }
     high
 }
 
+#[tactic(auto, unfolding(method::specs::Effects::opened))]
 fn opened(first: Number, floors: &[u32]) -> Answered
     requires { (length floors.now ≤ 8) × (0 < first.0) }
     ensures answer { result ≡ answered (openedTable first.0 floors.now) Answer.Done }
 {
-    let high = padded(floors);
-    let free = records::free_row();
-    let rows = [free; SLOTS];
-    let sites = floors.len() as u8;
-    let last = Number(first.0 - 1);
     Answered {
         table: Table {
-            sites: sites,
-            last: last,
-            high: high,
-            rows: rows,
+            sites: floors.len() as u8,
+            last: Number(first.0 - 1),
+            high: padded(floors),
+            rows: [records::free_row(); SLOTS],
         },
         answer: Answer::Done,
     }
