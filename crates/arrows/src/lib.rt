@@ -1,27 +1,30 @@
 // The arrows between the rows of a flat ticket table, nine entries a row. RULES, Orders.
 #![tactic(auto)]
 
-ghost use Rattle.std.specs.Prelude.{◌≡◌, ◌<◌, ◌≤◌, ◌/◌, length};
+ghost use Rattle.std.specs.Prelude.{◌≡◌, ℕ, ◌≤◌, ◌/◌, length};
 ghost use Rattle.orders.specs.Arrow.{ticket_at};
 ghost use Rattle.orders.specs.Entries.{entry_at, entry_arrowb};
 
+use good::entries::tickets_at;
+
 pub mod preds;
 
-// The ticket of row i at a site; where the list ends before it there is none.
-fn ticket_of(rows: &[u32], i: usize, s: usize) -> u32
-    requires { (i ≤ length rows.now / 9) × (s < 8) }
-    ensures answer { result ≡ ticket_at (entry_at rows.now i).tickets s }
+// The tickets of row i, and of a row that the list ends in those that it has; zeros for the others.
+fn tickets_of(rows: &[u32], i: usize) -> [u32; 8]
+    requires { i ≤ length rows.now / 9 }
+    ensures answer { (s : ℕ) → ticket_at result s ≡ ticket_at (entry_at rows.now i).tickets s }
 {
-    let k = 9 * i + 1 + s;
-    // a whole row: one test for all its sites, which the compiler makes once
     if i < rows.len() / 9 {
-        return rows[k];
+        return tickets_at(rows, i);
     }
-    if k < rows.len() { rows[k] } else { 0 }
+    let mut own = [0; 8];
+    for s in 0..8 {
+        own[s] = rows.get(9 * i + 1 + s).map_or(0, |ticket| *ticket);
+    }
+    own
 }
 
-// Has row a an arrow to row b? A row past the list holds no ticket, so that it has no arrows. All eight sites are looked at, so
-// that the loop has no branch.
+// Has row a an arrow to row b? A row past the list holds no ticket, so that it has no arrows.
 pub fn goes_before(rows: &[u32], a: usize, b: usize) -> bool
     ensures answer { result ≡ entry_arrowb (entry_at rows.now a) (entry_at rows.now b) }
 {
@@ -33,13 +36,5 @@ pub fn goes_before(rows: &[u32], a: usize, b: usize) -> bool
     if n < b {
         return false;
     }
-    let mut found = false;
-    let mut s: usize = 0;
-    while s < 8 {
-        let x = ticket_of(rows, a, s);
-        let y = ticket_of(rows, b, s);
-        found = found | ((0 < x) & (x < y));
-        s += 1;
-    }
-    found
+    orders::goes_before(&tickets_of(rows, a), &tickets_of(rows, b))
 }

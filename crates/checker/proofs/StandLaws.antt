@@ -2,30 +2,27 @@
 use mathlib.Core.Path.{◌≡◌, sym, ◌∙◌}
 use mathlib.Core.Bool.{Bool, true, false, and-true}
 use mathlib.Core.List.{List, [], map}
-use mathlib.Core.Logic.{inl, inr}
 use Prim.Native.Nat.{ℕ, ◌+◌, ◌/◌, ◌<◌, ◌≤◌}
 use native.Mathlib.Numerals.{add-one}
-use native.Mathlib.Omega.{arith}
 use lib.ListN.{length, get_or, take, drop, drop_of_length-le}
 use lib.Seq.{drop-cons, take-suc}
-use borrow.Author.Tests.{eq-eqb, lt-ltb, le-ltb}
+use borrow.Author.Tests.{eq-eqb}
 use Rattle.graph.specs.Lists.{Once}
 use Rattle.graph.specs.Check.{may_stand as mayStandAt, all_stand, orderb}
-use Rattle.graph.proofs.TestLaws.{true_not_false, false_of_not_true, same_of_iff}
+use Rattle.graph.proofs.TestLaws.{false_of_not_true, same_of_iff}
 use Rattle.graph.proofs.CheckLaws.{may_stand→stands, stands→may_stand}
 use Rattle.orders.specs.Entries.{Entry, number_of, entry_arrowb, entry_at, entries_in}
 use Rattle.orders.specs.Order.{in_orderb}
 use Rattle.orders.proofs.EntriesLaws.{length_entries_in, row_of_member}
 use Rattle.arrows.specs.Placed.{Marked, may_stand}
 use Rattle.arrows.proofs.PlacedLaws.{row_in, same_place, ready_of_may, may_of_ready}
-use Rattle.checker.specs.Places.{RowOf, row_stands}
 
 -- one place: what the word of the rows before it shows of a number
 module _ (flat : List ℕ) (w : ℕ) (before : List ℕ) (marked : Marked flat w before) (u : Once (map number_of (entries_in flat))) (n : ℕ) where
   abbrev test : Bool
   test = mayStandAt entry_arrowb number_of (entries_in flat) before n
 
-  stand_of_row : (i : ℕ) → i < length flat / 9 → (entry_at flat i).number ≡ n → test ≡ may_stand flat w i
+  pub stand_of_row : (i : ℕ) → i < length flat / 9 → (entry_at flat i).number ≡ n → test ≡ may_stand flat w i
   stand_of_row i h e = same_of_iff test (may_stand flat w i) there back
     where
       there : test ≡ true → may_stand flat w i ≡ true
@@ -41,7 +38,7 @@ module _ (flat : List ℕ) (w : ℕ) (before : List ℕ) (marked : Marked flat w
           let (new, ready) = ready_of_may flat w before marked i h t in
           stands→may_stand entry_arrowb number_of (entries_in flat) before n (record { new = rw e at new; row = entry_at flat i; member = row_in flat i h; named = e; ready = ready })
 
-  stand_of_none : ((j : ℕ) → j < length flat / 9 → ¬ ((entry_at flat j).number ≡ n)) → test ≡ false
+  pub stand_of_none : ((j : ℕ) → j < length flat / 9 → ¬ ((entry_at flat j).number ≡ n)) → test ≡ false
   stand_of_none none = false_of_not_true test named
     where
       named : test ≡ true → ⊥
@@ -49,15 +46,6 @@ module _ (flat : List ℕ) (w : ℕ) (before : List ℕ) (marked : Marked flat w
           let s = may_stand→stands entry_arrowb number_of (entries_in flat) before n t in
           let (j, l, p) = row_of_member flat s.row s.member in
           none j l (rw p s.named)
-
-  pub stand_of_found : (i : ℕ) → RowOf flat n i → test ≡ row_stands flat w i
-  stand_of_found i (inl (h, e)) = rw (lt-ltb i (length flat / 9) h) (stand_of_row i h e)
-  stand_of_found i (inr (e, none)) = rw (le-ltb i (length flat / 9) (omega arith)) (stand_of_none none)
-
-  -- where it may stand it is a row's number
-  pub row_of_stand : (i : ℕ) → RowOf flat n i → row_stands flat w i ≡ true → (i < length flat / 9) × ((entry_at flat i).number ≡ n)
-  row_of_stand i (inl f) t = f
-  row_of_stand i (inr (e, none)) t = absurd (true_not_false t (rw (le-ltb i (length flat / 9) (omega arith))))
 
 module _ (rows : List Entry) where
   -- the places from p on

@@ -23,15 +23,15 @@ pub fn check(rows: &[u32], order: &[u32]) -> Result<bool, Refusal>
     if order.len() != rows.len() / 9 {
         return Ok(false);
     }
-    let mut placed: u32 = 0;
-    let mut p: usize = 0;
-    while p < order.len() {
-        let i = row_of(rows, order[p]);
+    let mut placed = 0;
+    for n in order {
+        let Some(i) = row_of(rows, *n) else {
+            return Ok(false);
+        };
         if !may_stand(rows, placed, i) {
             return Ok(false);
         }
         placed = with(placed, i);
-        p += 1;
     }
     Ok(true)
 }

@@ -1,27 +1,23 @@
 // May a number stand at a place of the order, behind those that stand before? What stands before is a word: bit i says that row i
 // does. RULES, Orders.
 ghost use Rattle.std.specs.Prelude.{◌≡◌, ◌≤◌, ◌<◌, ◌/◌, length};
-ghost use Rattle.words.specs.Below.{any_below};
-ghost use Rattle.arrows.specs.Placed.{waits};
-ghost use Rattle.checker.specs.Places.{RowOf, row_stands};
+ghost use Rattle.arrows.specs.Placed.{waits, may_stand};
+ghost use Rattle.checker.specs.Places.{RowOf};
 
 use arrows::goes_before;
 use good::entries::number_at;
 use words::has;
 
-// Which row has the number? Past the rows where none has.
-pub(crate) fn row_of(rows: &[u32], n: u32) -> usize
+// Which row has the number?
+pub(crate) fn row_of(rows: &[u32], n: u32) -> Option<usize>
     ensures answer { RowOf rows.now n result }
 {
-    let m = rows.len() / 9;
-    let mut i: usize = 0;
-    while i < m {
+    for i in 0..rows.len() / 9 {
         if number_at(rows, i) == n {
-            return i;
+            return Some(i);
         }
-        i += 1;
     }
-    m
+    None
 }
 
 // Has row j an arrow to row i, without standing before?
@@ -29,38 +25,21 @@ fn holds_up(rows: &[u32], placed: u32, j: usize, i: usize) -> bool
     requires { j < 32 }
     ensures answer { result ≡ waits rows.now placed i j }
 {
-    if has(placed, j) {
-        return false;
-    }
-    goes_before(rows, j, i)
+    !has(placed, j) && goes_before(rows, j, i)
 }
 
-// Must row i still wait for a predecessor?
-fn is_unready(rows: &[u32], placed: u32, i: usize) -> bool
-    requires { length rows.now ≤ 288 }
-    ensures answer { result ≡ any_below (waits rows.now placed i) (length rows.now / 9) }
-{
-    let n = rows.len() / 9;
-    let mut j: usize = 0;
-    while j < n {
-        if holds_up(rows, placed, j, i) {
-            return true;
-        }
-        j += 1;
-    }
-    false
-}
-
-// Is i a row that does not stand before, and do all its predecessors?
+// Does row i not stand before, while all its predecessors do?
 pub(crate) fn may_stand(rows: &[u32], placed: u32, i: usize) -> bool
-    requires { length rows.now ≤ 288 }
-    ensures answer { result ≡ row_stands rows.now placed i }
+    requires { (length rows.now ≤ 288) × (i < length rows.now / 9) }
+    ensures answer { result ≡ may_stand rows.now placed i }
 {
-    if rows.len() / 9 <= i {
-        return false;
-    }
     if has(placed, i) {
         return false;
     }
-    !is_unready(rows, placed, i)
+    for j in 0..rows.len() / 9 {
+        if holds_up(rows, placed, j, i) {
+            return false;
+        }
+    }
+    true
 }

@@ -3,28 +3,31 @@
 
 ghost use Rattle.std.specs.Prelude.{◌≡◌, ◌+◌, ◌-◌, ◌/◌, ◌<◌, length};
 ghost use Rattle.graph.specs.Lists.{any_of};
+ghost use Rattle.orders.specs.Arrow.{any_site};
 ghost use Rattle.orders.specs.Entries.{entry_at, entries_from};
-ghost use Rattle.orders.specs.Good.{clash, goodb};
+ghost use Rattle.orders.specs.Good.{clash, goodb, sameb};
 
-use entries::{number_at, ticket_at, tickets_at};
+use entries::{number_at, tickets_at};
 
 pub mod entries;
 
-// Has row j this number, or one of these tickets at its site? All are compared, so that the loop has no branch.
-fn clashes(rows: &[u32], number: u32, own: [u32; 8], j: usize) -> bool
-    requires { j < length rows.now / 9 }
-    ensures answer { result ≡ clash (record { number = number; tickets = own }) (entry_at rows.now j) }
+// Is there a site at which both hold the same ticket? All eight are looked at, so that the loop has no branch.
+fn shares_ticket(a: &[u32; 8], b: &[u32; 8]) -> bool
+    ensures answer { result ≡ any_site sameb a.now b.now }
 {
-    let b = rows[9 * j];
-    let mut found = number == b;
-    let mut s: usize = 0;
-    while s < 8 {
-        let x = own[s];
-        let y = ticket_at(rows, j, s);
-        found = found | ((0 < x) & (x == y));
-        s += 1;
+    let mut found = false;
+    for s in 0..8 {
+        found |= (0 < a[s]) & (a[s] == b[s]);
     }
     found
+}
+
+// Has row j this number, or one of these tickets at its site?
+fn clashes(rows: &[u32], number: u32, own: &[u32; 8], j: usize) -> bool
+    requires { j < length rows.now / 9 }
+    ensures answer { result ≡ clash (record { number = number; tickets = own.now }) (entry_at rows.now j) }
+{
+    number == number_at(rows, j) || shares_ticket(own, &tickets_at(rows, j))
 }
 
 // Does row i clash with one that stands behind it? It is read once, and then held against each.
@@ -32,15 +35,12 @@ fn clashes_behind(rows: &[u32], i: usize) -> bool
     requires { i < length rows.now / 9 }
     ensures answer { result ≡ any_of (clash (entry_at rows.now i)) (entries_from rows.now (i + 1) (length rows.now / 9 - (i + 1))) }
 {
-    let n = rows.len() / 9;
     let number = number_at(rows, i);
     let own = tickets_at(rows, i);
-    let mut j = i + 1;
-    while j < n {
-        if clashes(rows, number, own, j) {
+    for j in i + 1..rows.len() / 9 {
+        if clashes(rows, number, &own, j) {
             return true;
         }
-        j += 1;
     }
     false
 }
@@ -55,16 +55,13 @@ pub fn is_good(rows: &[u32]) -> bool
     if 288 < rows.len() {
         return false;
     }
-    let n = rows.len() / 9;
-    let mut i: usize = 0;
-    while i < n {
+    for i in 0..rows.len() / 9 {
         if number_at(rows, i) == 0 {
             return false;
         }
         if clashes_behind(rows, i) {
             return false;
         }
-        i += 1;
     }
     true
 }

@@ -2,14 +2,13 @@
 use mathlib.Core.Path.{◌≡◌, refl, sym}
 use mathlib.Core.Bool.{Bool, true, false, ◌||◌, or-false, or_assoc}
 use mathlib.Core.List.{List, [], ◌∷◌}
-use Prim.Native.Nat.{ℕ, zero, suc, ◌+◌, ◌-◌, ◌*◌, ◌/◌, ◌<◌, ◌≤◌}
+use Prim.Native.Nat.{ℕ, zero, suc, ◌+◌, ◌-◌, ◌<◌, ◌≤◌}
 use native.Mathlib.Numerals.{add-one}
 use native.Mathlib.Omega.{arith}
-use lib.ListN.{length, take, drop, length-take}
-use lib.Seq.{take_all}
+use lib.ListN.{take}
 use Rattle.graph.specs.Lists.{any_of}
 use Rattle.orders.specs.Arrow.{Tickets, ticket_at, any_site, beforeb, arrowb}
-use Rattle.orders.specs.Entries.{Entry, entry_at, entries_from, entries_in}
+use Rattle.orders.specs.Entries.{Entry, entry_at, entries_from}
 use Rattle.orders.proofs.ArrowLaws.{beforeb_zero}
 
 -- of n rows, those from row i on
@@ -33,11 +32,6 @@ module _ (flat : List ℕ) (i n : ℕ) where
     pub any_row_end : n ≤ i → any_of f (entries_from flat i (n - i)) ≡ false
     any_row_end h = rw (rows_end h)
 
--- a search through all of them
-pub any_row_start : (flat : List ℕ) (f : Entry → Bool) → any_of f (entries_in flat) ≡ any_of f (entries_from flat 0 (length flat / 9 - 0))
-unfolding entries_in
-any_row_start flat f = let e : length flat / 9 - 0 ≡ length flat / 9 = omega arith in rw e
-
 -- a test of two tickets that fails where one of them is 0, over the first s sites
 module _ (f : ℕ → ℕ → Bool) (left : (y : ℕ) → f 0 y ≡ false) (right : (x : ℕ) → f x 0 ≡ false) where
   one_more : (xs ys : Tickets) (s : ℕ) → any_site f (take (suc s) xs) (take (suc s) ys) ≡ any_site f (take s xs) (take s ys) || f (ticket_at xs s) (ticket_at ys s)
@@ -51,14 +45,6 @@ module _ (f : ℕ → ℕ → Bool) (left : (y : ℕ) → f 0 y ≡ false) (righ
   pub any_site_more : (xs ys : Tickets) (s : ℕ)
       → any_site f (take (s + 1) xs) (take (s + 1) ys) ≡ any_site f (take s xs) (take s ys) || f (ticket_at xs s) (ticket_at ys s)
   any_site_more xs ys s = rw (add-one s) (one_more xs ys s)
-
-pub take_row : (flat : List ℕ) (i s : ℕ) → 8 ≤ s → take s (entry_at flat i).tickets ≡ (entry_at flat i).tickets
-unfolding entry_at
-take_row flat i s h = take_all s (take 8 (drop (9 * i + 1) flat)) (simp length-take (omega arith))
-
-pub any_site_all : (f : ℕ → ℕ → Bool) (flat : List ℕ) (i j s : ℕ) → 8 ≤ s
-    → any_site f (take s (entry_at flat i).tickets) (take s (entry_at flat j).tickets) ≡ any_site f (entry_at flat i).tickets (entry_at flat j).tickets
-any_site_all f flat i j s h = rw (take_row flat i s h, take_row flat j s h)
 
 -- an arrow, site by site
 pub arrow_more : (xs ys : Tickets) (s : ℕ)

@@ -1,5 +1,5 @@
 -- The picking of an order, a place at a time: its start, a place more, the end, and where no row may stand. Assumes nothing.
-use mathlib.Core.Path.{◌≡◌, sym, ◌∙◌}
+use mathlib.Core.Path.{◌≡◌, sym, ◌∙◌, subst}
 use mathlib.Core.List.{List, [], ◌∷◌, ◌++◌, append-nil, map}
 use Prim.Native.Nat.{ℕ, suc, ◌+◌, ◌-◌, ◌/◌, ◌<◌, ◌≤◌}
 use native.Mathlib.Numerals.{add-one}
@@ -17,7 +17,8 @@ use Rattle.orders.specs.Entries.{number_of, entry_arrowb, entry_at, entries_in}
 use Rattle.orders.proofs.EntriesLaws.{length_entries_in}
 use Rattle.arrows.specs.Placed.{Marked, may_stand}
 use Rattle.arrows.proofs.PlacedLaws.{marked_none, marked_more}
-use Rattle.writer.specs.Next.{number_at, next_of}
+use Rattle.std.specs.Prelude.{Option, Some, None}
+use Rattle.writer.specs.Next.{Least, number_at, next_of}
 use Rattle.writer.specs.Picks.{Placing}
 use Rattle.writer.proofs.BelowLaws.{least_of_least_below}
 use Rattle.writer.proofs.NextLaws.{next_of_least, no_next_of_none}
@@ -32,29 +33,35 @@ module _ (flat : List ℕ) where
           rw (e, ← length_entries_in flat) (greedy_of_left entry_arrowb number_of (entries_in flat))
 
   module _ (numbers : List ℕ) (w k : ℕ) (p : Placing flat numbers w k) where
-    pub placing_more : Once (map number_of (entries_in flat)) → k < length flat / 9 → length flat / 9 ≤ length numbers
-        → (j : ℕ) → j ≡ next_of flat w → j < length flat / 9 → Placing flat (set numbers k (number_at flat j)) (with w j) (k + 1)
-    placing_more u h g j q l = record { front = front; marked = marked }
-      where
-        more : take (k + 1) (set numbers k (number_at flat j)) ≡ take k numbers ++ (number_at flat j ∷ [])
-        more = rw (add-one k) (take-suc-set numbers k (number_at flat j) (omega arith))
+    module _ (u : Once (map number_of (entries_in flat))) (h : k < length flat / 9) (g : length flat / 9 ≤ length numbers) (j : ℕ) (q : Some j ≡ next_of flat w) where
+      least : Least (may_stand flat w) (number_at flat) (length flat / 9) (Some j)
+      least = subst (λ (b : Option ℕ). Least (may_stand flat w) (number_at flat) (length flat / 9) b) (sym q) (least_of_least_below (may_stand flat w) (number_at flat) (length flat / 9))
 
-        next : NextAfter (Holds entry_arrowb) number_of (entries_in flat) (take k numbers) (entry_at flat j)
-        next = next_of_least flat w (take k numbers) p.marked j (rw q (least_of_least_below (may_stand flat w) (number_at flat) (length flat / 9) (length flat / 9) (omega arith))) l
+      pub placing_row : j < length flat / 9
+      placing_row = least.0
 
-        front : greedy entry_arrowb number_of (entries_in flat)
-            ≡ take (k + 1) (set numbers k (number_at flat j)) ++ write entry_arrowb number_of (length flat / 9 - (k + 1)) (left number_of (entries_in flat) (take (k + 1) (set numbers k (number_at flat j))))
-        front =
-            let e : length flat / 9 - k ≡ suc (length flat / 9 - (k + 1)) = omega arith in
-            rw more (order_of_one_more entry_arrowb number_of (entries_in flat) (length flat / 9 - (k + 1)) (take k numbers) (entry_at flat j) (distinct_of_once number_of (entries_in flat) u) next (rw e at p.front))
+      pub placing_more : Placing flat (set numbers k (number_at flat j)) (with w j) (k + 1)
+      placing_more = record { front = front; marked = marked }
+        where
+          more : take (k + 1) (set numbers k (number_at flat j)) ≡ take k numbers ++ (number_at flat j ∷ [])
+          more = rw (add-one k) (take-suc-set numbers k (number_at flat j) (omega arith))
 
-        marked : Marked flat (with w j) (take (k + 1) (set numbers k (number_at flat j)))
-        marked = rw more (marked_more flat w (take k numbers) p.marked u j l)
+          next : NextAfter (Holds entry_arrowb) number_of (entries_in flat) (take k numbers) (entry_at flat j)
+          next = next_of_least flat w (take k numbers) p.marked j least
 
-    pub order_of_stuck : (j : ℕ) → j ≡ next_of flat w → length flat / 9 ≤ j → take k numbers ≡ greedy entry_arrowb number_of (entries_in flat)
-    order_of_stuck j q h =
-        let e = write_of_no_next_after entry_arrowb number_of (entries_in flat) (length flat / 9 - k) (take k numbers)
-        (no_next_of_none flat w (take k numbers) p.marked j (rw q (least_of_least_below (may_stand flat w) (number_at flat) (length flat / 9) (length flat / 9) (omega arith))) h) in
+          front : greedy entry_arrowb number_of (entries_in flat)
+              ≡ take (k + 1) (set numbers k (number_at flat j)) ++ write entry_arrowb number_of (length flat / 9 - (k + 1)) (left number_of (entries_in flat) (take (k + 1) (set numbers k (number_at flat j))))
+          front =
+              let e : length flat / 9 - k ≡ suc (length flat / 9 - (k + 1)) = omega arith in
+              rw more (order_of_one_more entry_arrowb number_of (entries_in flat) (length flat / 9 - (k + 1)) (take k numbers) (entry_at flat j) (distinct_of_once number_of (entries_in flat) u) next (rw e at p.front))
+
+          marked : Marked flat (with w j) (take (k + 1) (set numbers k (number_at flat j)))
+          marked = rw more (marked_more flat w (take k numbers) p.marked u j placing_row)
+
+    pub order_of_stuck : None ≡ next_of flat w → take k numbers ≡ greedy entry_arrowb number_of (entries_in flat)
+    order_of_stuck q =
+        let none : Least (may_stand flat w) (number_at flat) (length flat / 9) None = subst (λ (b : Option ℕ). Least (may_stand flat w) (number_at flat) (length flat / 9) b) (sym q) (least_of_least_below (may_stand flat w) (number_at flat) (length flat / 9)) in
+        let e = write_of_no_next_after entry_arrowb number_of (entries_in flat) (length flat / 9 - k) (take k numbers) (no_next_of_none flat w (take k numbers) p.marked none) in
         sym (p.front ∙ rw e (append-nil (take k numbers)))
 
     pub order_of_all : length flat / 9 ≤ k → take k numbers ≡ greedy entry_arrowb number_of (entries_in flat)

@@ -1,5 +1,6 @@
 -- How far the picking of an order has come, and what it gives. No public contract cites it.
-use Rattle.std.specs.Prelude.{◌≡◌, List, ◌++◌, ℕ, ◌-◌, ◌/◌, ◌≤◌, length, take}
+use Rattle.std.specs.Prelude.{◌≡◌, true, false, List, ◌++◌, ℕ, ◌-◌, ◌/◌, length, take, Option, Some, None}
+use Rattle.graph.specs.Acyclic.{acyclic}
 use Rattle.graph.specs.Order.{write, greedy}
 use Rattle.graph.specs.Smallest.{left}
 use Rattle.orders.specs.Entries.{number_of, entry_arrowb, entries_in}
@@ -12,8 +13,8 @@ pub record Placing (flat : List ℕ) (numbers : List ℕ) (w k : ℕ) : Type 0 w
   -- a row's bit is set exactly if its number is picked
   pub marked : Marked flat w (take k numbers)
 
--- the first k of 32 numbers are all that the greedy choice gives
-pub record PickedOrder (flat : List ℕ) (numbers : List ℕ) (k : ℕ) : Type 0 where
-  pub size : length numbers ≡ 32
-  pub within : k ≤ 32
-  pub order : take k numbers ≡ greedy entry_arrowb number_of (entries_in flat)
+-- the numbers of all rows, as the greedy choice gives them; or the rows have no order
+abbrev pub Picked : List ℕ → Option (List ℕ) → Type 0
+Picked flat (Some numbers) = (length numbers ≡ 32) × (acyclic entry_arrowb (entries_in flat) ≡ true)
+    × (take (length flat / 9) numbers ≡ greedy entry_arrowb number_of (entries_in flat))
+Picked flat None = acyclic entry_arrowb (entries_in flat) ≡ false

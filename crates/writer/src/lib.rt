@@ -1,7 +1,7 @@
 // The writer of an order: at each place the smallest number that may stand there. RULES, Orders.
 #![tactic(auto)]
 
-ghost use Rattle.std.specs.Prelude.{◌≡◌, ◌+◌, ◌≤◌, leb, length, take};
+ghost use Rattle.std.specs.Prelude.{◌≡◌, ◌+◌, ◌≤◌, leb, length};
 ghost use Rattle.endian.specs.Laid.{laid};
 ghost use Rattle.orders.specs.Reply.{write_reply};
 ghost use Rattle.orders.specs.Write.{write_result};
@@ -12,26 +12,19 @@ use refusals::Refusal;
 
 mod picks;
 
-// Lays the first n of the numbers over the front of what it is lent.
-fn lay(out: &mut [u32], numbers: [u32; 32], n: usize)
-    requires { (n ≤ length out.old) × (n ≤ 32) }
-    ensures buffer { out.new ≡ laid out.old 0 (take n numbers) }
+// Lays the numbers over the front of what it is lent.
+fn lay(out: &mut [u32], numbers: &[u32])
+    requires { length numbers.now ≤ length out.old }
+    ensures buffer { out.new ≡ laid out.old 0 numbers.now }
 {
-    let mut i: usize = 0;
-    while i < n {
-        out[i] = numbers[i];
-        i += 1;
-    }
+    out[..numbers.len()].copy_from_slice(numbers);
 }
 
 // Are there n entries from the place on, in a buffer of that length? place + n might wrap.
 fn has_room(len: usize, place: usize, n: usize) -> bool
     ensures answer { result ≡ leb (place + n) len }
 {
-    if len < place {
-        return false;
-    }
-    n <= len - place
+    place <= len && n <= len - place
 }
 
 // Writes an order of the rows from the place on, and says how many numbers it wrote; or refuses, and leaves the buffer as it is.
@@ -39,23 +32,15 @@ pub fn write(rows: &[u32], place: usize, out: &mut [u32]) -> Result<usize, Refus
     ensures answer { write_reply result ≡ (write_result rows.now place out.old).0 }
     ensures buffer { out.new ≡ (write_result rows.now place out.old).1 }
 {
-    let good = is_good(rows);
-    let n = rows.len() / 9;
-    let room = has_room(out.len(), place, n);
-    if !good {
+    if !is_good(rows) {
         return Err(Refusal::BadRows);
     }
-    // picked apart from the buffer, which a refusal leaves as it is
-    let p = pick(rows);
-    let count = p.count;
-    let numbers = p.numbers;
-    let full = n <= count;
-    if !room {
+    let n = rows.len() / 9;
+    if !has_room(out.len(), place, n) {
         return Err(Refusal::NoRoom);
     }
-    if !full {
-        return Err(Refusal::NoOrder);
-    }
-    lay(&mut out[place..], numbers, n);
+    // picked apart from the buffer, which a refusal leaves as it is
+    let numbers = pick(rows).ok_or(Refusal::NoOrder)?;
+    lay(&mut out[place..], &numbers[..n]);
     Ok(n)
 }

@@ -1,91 +1,67 @@
 // The order itself, picked into an array: at each place the smallest number that may stand there. Rests on specs/Next.antt.
-ghost use Rattle.std.specs.Prelude.{◌≡◌, cond, ◌&&◌, ◌||◌, ◌≤◌, ◌/◌, eqb, leb, ltb, length};
+ghost use Rattle.std.specs.Prelude.{◌≡◌, not, ◌&&◌, ◌<◌, ◌≤◌, ◌/◌, eqb, length, get_or};
 ghost use Rattle.std.specs.Int.Bits.{bit_and};
-ghost use Rattle.words.specs.Word.{others};
+ghost use Rattle.words.specs.Word.{has as has_of, others};
 ghost use Rattle.orders.specs.Good.{GoodRows};
 ghost use Rattle.arrows.specs.Preds.{preds_of};
-ghost use Rattle.writer.specs.Next.{number_at, next_of};
-ghost use Rattle.writer.specs.Picks.{PickedOrder};
+ghost use Rattle.writer.specs.Next.{number_at, lower, next_of};
+ghost use Rattle.writer.specs.Picks.{Picked};
 
 use arrows::preds::predecessors;
 use good::entries::number_at;
-use words::with;
+use words::{has, with};
 
-// The first `count` of the numbers stand in their order.
-#[derive(Drop)]
-pub struct Picked {
-    pub count: usize,
-    pub numbers: [u32; 32],
+// May row j stand at the next place: is it not placed, while all its predecessors are?
+fn may_stand(preds: &[u32; 32], placed: u32, j: usize) -> bool
+    requires { j < 32 }
+    ensures answer { result ≡ not (has_of placed j) && eqb (bit_and (get_or preds.now j 0) (others placed)) 0 }
+{
+    !has(placed, j) && preds[j] & !placed == 0
 }
 
-// Have all predecessors been placed?
-fn is_ready(preds: u32, placed: u32) -> bool
-    ensures answer { result ≡ eqb (bit_and preds (others placed)) 0 }
+// Of the best row so far and row j the one with the smaller number.
+fn lower(rows: &[u32], best: Option<usize>, j: usize) -> Option<usize>
+    ensures answer { result ≡ lower (number_at rows.now) best j }
 {
-    preds & !placed == 0
-}
-
-// Has row j a smaller number than the best so far? Past the rows there is no best.
-fn is_lower(rows: &[u32], best: usize, j: usize) -> bool
-    ensures answer { result ≡ leb (length rows.now / 9) best || ltb (number_at rows.now j) (number_at rows.now best) }
-{
-    if rows.len() / 9 <= best {
-        return true;
+    match best {
+        None => Some(j),
+        Some(b) => {
+            if number_at(rows, j) < number_at(rows, b) {
+                Some(j)
+            } else {
+                Some(b)
+            }
+        }
     }
-    number_at(rows, j) < number_at(rows, best)
 }
 
-fn better(rows: &[u32], ready: bool, best: usize, j: usize) -> usize
-    ensures answer { result ≡ cond (ready && (leb (length rows.now / 9) best || ltb (number_at rows.now j) (number_at rows.now best))) j best }
-{
-    if !ready {
-        return best;
-    }
-    if is_lower(rows, best, j) { j } else { best }
-}
-
-// The row with the smallest number that may stand at the next place; past the rows where none may. Only rows that are not placed are
-// looked at: `rest` is what `!placed` has from bit i on.
-fn next_row(rows: &[u32], preds: &[u32; 32], placed: u32) -> usize
+// The row with the smallest number that may stand at the next place.
+fn next_row(rows: &[u32], preds: &[u32; 32], placed: u32) -> Option<usize>
     requires { (length rows.now ≤ 288) × (preds.now ≡ preds_of rows.now) }
     ensures answer { result ≡ next_of rows.now placed }
 {
-    let n = rows.len() / 9;
-    let mut best = n;
-    let mut rest = !placed;
-    let mut i: usize = 0;
-    while rest != 0 {
-        let t = u32::trailing_zeros(rest);
-        let j = i + t as usize;
-        if n <= j {
-            return best;
+    let mut best = None;
+    for j in 0..rows.len() / 9 {
+        if may_stand(preds, placed, j) {
+            best = lower(rows, best, j);
         }
-        best = better(rows, is_ready(preds[j], placed), best, j);
-        rest = rest >> t >> 1;
-        i = j + 1;
     }
     best
 }
 
-// It stops short where no row may stand at the next place: then those left make a cycle.
-pub(crate) fn pick(rows: &[u32]) -> Picked
+// The numbers in their order, and zeros behind them. There is none where no row may stand at the next place: then those left make a
+// cycle.
+pub(crate) fn pick(rows: &[u32]) -> Option<[u32; 32]>
     requires { GoodRows rows.now }
-    ensures answer { PickedOrder rows.now result.numbers result.count }
+    ensures answer { Picked rows.now result }
 {
-    let n = rows.len() / 9;
     let preds = predecessors(rows);
     let mut numbers = [0; 32];
-    let mut placed: u32 = 0;
-    let mut k: usize = 0;
-    while k < n {
-        let j = next_row(rows, &preds, placed);
-        if n <= j {
-            return Picked { count: k, numbers };
-        }
-        let x = number_at(rows, j);
-        numbers[k] = x;
+    let mut placed = 0;
+    for k in 0..rows.len() / 9 {
+        let j = next_row(rows, &preds, placed)?;
+        numbers[k] = number_at(rows, j);
         placed = with(placed, j);
-        k += 1;
     }
-    Picked { count: k, numbers }
+    Some(numbers)
 }

@@ -1,10 +1,5 @@
-use mathlib.Core.Path.{◌≡◌}
-use Prim.Native.Nat.{◌-◌, ◌≤◌}
-use Rattle.arrows.specs.Preds.{worded, Joined}
+use Rattle.arrows.specs.Preds.{worded, Filled}
 use Rattle.arrows.proofs.preds.predecessors.Given as goal
 
 abbrev pub invariant-loop-i : goal.invariant-loop-i
-invariant-loop-i l = (l.n ≡ worded l.rows) × (l.i ≤ l.n) × Joined l.rows l.i l.preds
-
-abbrev pub decreases-loop-i : goal.decreases-loop-i
-decreases-loop-i l = l.n - l.i
+invariant-loop-i l = Filled l.rows (worded l.rows) l.i l.preds

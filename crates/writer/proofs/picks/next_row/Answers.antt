@@ -1,54 +1,24 @@
--- `writer::picks::next_row` meets its contract: after each turn it has the least of the first i rows. Assumes nothing.
-use mathlib.Core.Path.{◌≡◌, refl, sym, ◌∙◌}
-use Prim.Native.Nat.{◌+◌, ◌/◌, ◌<◌}
-use native.Mathlib.Omega.{arith}
-use lib.Count.{count_trailing_zeros}
-use lib.ListN.{length}
-use native.Mathlib.Nat.{div-one}
-use borrow.Author.Rules.{rules}
-use Rattle.words.specs.Word.{others, Lowest}
-use Rattle.words.proofs.WordLaws.{has_zero, lowest}
+-- `writer::picks::next_row` meets its contract: after j turns it has the least of the first j rows. Assumes nothing.
+use Rattle.std.proofs.Common.{rules, ◌≡◌, ◌^◌, ◌<◌, sym, ap, ◌∙◌}
 use Rattle.arrows.specs.Placed.{may_stand}
-use Rattle.writer.proofs.BelowLaws.{least_below_none}
-use Rattle.writer.proofs.NextLaws.{rest_lt, all_skipped, least_more, may_of_lowest, rest_more}
-use Rattle.writer.proofs.picks.next_row.Goals.{At-loop-rest}
+use Rattle.writer.specs.Next.{number_at, lower}
+use Rattle.writer.proofs.BelowLaws.{least_below_none, least_below_hit, least_below_skip}
+use Rattle.writer.proofs.NextLaws.{may_of_words}
+use Rattle.writer.proofs.picks.next_row.Goals.{then-may_stand, else-may_stand}
 use Rattle.writer.proofs.picks.next_row.Goals as goal
 
--- the lowest row that is not placed, from row i on
-at-lowest : (c : At-loop-rest) → (c.loop-rest.rest ≡ 0 → ⊥) → (count_trailing_zeros 32 c.loop-rest.rest < 32) × Lowest c.loop-rest.rest (count_trailing_zeros 32 c.loop-rest.rest)
-at-lowest c n =
-    let v = c.loop-rest.invariant in
-    let a = c.args in
-    lowest 32 c.loop-rest.rest n (rest_lt a.rows.now v.1 a.placed v.3 c.loop-rest.i c.loop-rest.rest v.5)
+pub loop-j-init : goal.loop-j-init
+loop-j-init c = sym (least_below_none _ _)
 
-pub loop-rest-init : goal.loop-rest-init
-loop-rest-init c = let a = c.args in
-    (refl, c.requires.0, c.requires.1, search rules, search rules, sym (div-one (others a.placed)), sym (least_below_none _ _ _))
-
-pub returns-then-n-j : goal.returns-then-n-j
-returns-then-n-j c = let v = c.loop-rest.invariant in
-    let a = c.args in
-    let low = at-lowest ((goal.at.returns-then-n-j c).At-loop-rest) c.loop-rest-test.true in record { answer = v.6 ∙ all_skipped a.rows.now v.1 a.placed v.3 c.loop-rest.i c.loop-rest.rest v.5 (count_trailing_zeros 32 c.loop-rest.rest) low.1.below (omega arith) (omega arith) }
-
-pub loop-rest-preserved : goal.loop-rest-preserved
-loop-rest-preserved c = let v = c.loop-rest.invariant in
-    let a = c.args in
-    let flat = a.rows.now in
-    let i = c.loop-rest.i in
-    let t = count_trailing_zeros 32 c.loop-rest.rest in
-    let low = (at-lowest ((goal.at.loop-rest-preserved c).At-loop-rest) c.loop-rest-test.true).1 in
-    let h : i + t < length flat / 9 = omega (arith, c.if-n-j.false) in
-    let may : c.is_ready.result ≡ may_stand flat a.placed (i + t) =
-    c.is_ready.ensures.answer ∙ rw v.2 (sym (may_of_lowest flat v.1 a.placed v.3 i c.loop-rest.rest v.5 t low h)) in (
-      refl,
-      v.1,
-      v.2,
-      v.3,
-      omega arith,
-      rest_more flat v.1 a.placed v.3 i c.loop-rest.rest v.5 t low h,
-      c.better-best.ensures.answer ∙ rw may (least_more flat v.1 a.placed v.3 i c.loop-rest.rest v.5 t low h c.loop-rest.best v.6),
-    )
-
-pub returns : goal.returns
-returns c = let v = c.loop-rest.invariant in
-    let a = c.args in record { answer = v.6 ∙ all_skipped a.rows.now v.1 a.placed v.3 c.loop-rest.i c.loop-rest.rest v.5 32 (λ k h. rw c.loop-rest-test.false (has_zero k)) (omega arith) (omega arith) }
+pub loop-j-preserved : goal.loop-j-preserved
+loop-j-preserved c =
+    let flat = c.args.rows.now in
+    let w = c.args.placed in
+    let j = c.loop-j.j in
+    let fits : w < 2 ^ 32 = search rules in
+    let may : c.may_stand.result ≡ may_stand flat w j = c.may_stand.ensures.answer ∙ rw c.requires.1 (sym (may_of_words flat c.requires.0 w fits j c.loop-j-test.true)) in
+    elim c.if-may_stand.branch [
+      | then-may_stand r ↦ r.best-is ∙ r.lower-best.ensures.answer ∙ ap (λ b. lower (number_at flat) b j) c.loop-j.invariant
+          ∙ least_below_hit (may_stand flat w) (number_at flat) j (sym may ∙ r.if-may_stand.true)
+      | else-may_stand r ↦ r.best-is ∙ c.loop-j.invariant ∙ least_below_skip (may_stand flat w) (number_at flat) j (sym may ∙ r.if-may_stand.false)
+    ]

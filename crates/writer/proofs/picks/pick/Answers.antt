@@ -1,42 +1,49 @@
 -- `writer::picks::pick` meets its contract: after k turns k numbers of the order are picked. Assumes nothing.
-use mathlib.Core.Path.{◌≡◌, refl}
-use Prim.Native.Nat.{◌%◌}
+use Rattle.std.proofs.Common.{◌≡◌, ◌/◌, ◌%◌, ◌≤◌, length, refl, sym, ◌∙◌, arith, Some, None}
 use native.Mathlib.Nat.{mod-eq_of_lt}
-use native.Mathlib.Omega.{arith}
-use lib.ListN.{take, length-set}
-use borrow.Author.Rules.{rules}
-use Rattle.graph.specs.Order.{greedy}
-use Rattle.orders.specs.Entries.{number_of, entry_arrowb, entries_in}
-use Rattle.writer.specs.Picks.{PickedOrder}
-use Rattle.writer.proofs.PlacingLaws.{placing_none, placing_more, order_of_stuck, order_of_all}
-use Rattle.writer.proofs.picks.pick.Goals.{At-loop-k}
+use lib.ListN.{length-set}
+use borrow.Author.Tests.{eq-eqb, ne_eqb}
+use Rattle.writer.specs.Next.{next_of}
+use Rattle.writer.proofs.PlacingLaws.{placing_none, placing_row, placing_more, order_of_stuck, order_of_all}
+use Rattle.writer.proofs.WriterLaws.{acyclic_of_count}
 use Rattle.writer.proofs.picks.pick.Goals as goal
 
--- what is picked where the loop stops
-picked : (c : At-loop-k) → take c.loop-k.k c.loop-k.numbers ≡ greedy entry_arrowb number_of (entries_in c.args.rows.now)
-    → PickedOrder c.args.rows.now c.loop-k.numbers c.loop-k.k
-picked c e = record { size = c.loop-k.invariant.2; within = omega (arith, c.loop-k.invariant.4.few); order = e }
-
 pub loop-k-init : goal.loop-k-init
-loop-k-init c = let g = c.requires in (refl, search rules, refl, c.predecessors-preds.ensures.answer, g, placing_none c.args.rows.now _)
+loop-k-init c = (refl, placing_none c.args.rows.now _)
 
-pub returns-then-n-j : goal.returns-then-n-j
-returns-then-n-j c = let v = c.loop-k.invariant in record { answer = picked ((goal.at.returns-then-n-j c).At-loop-k) (order_of_stuck c.args.rows.now c.loop-k.numbers c.loop-k.placed c.loop-k.k v.5 c.next_row-j.result c.next_row-j.ensures.answer c.if-n-j.true) }
+pub returns-in_err-j : goal.returns-in_err-j
+returns-in_err-j c =
+    let flat = c.args.rows.now in
+    let v = c.loop-k.invariant in
+    let k = c.loop-k.k in
+    let g = c.requires in
+    let stuck : None ≡ next_of flat c.loop-k.placed = sym c.in_err-j.was ∙ c.next_row.ensures.answer in
+    let order = order_of_stuck flat c.loop-k.numbers c.loop-k.placed k v.1 stuck in
+    let short = acyclic_of_count flat g c.loop-k.numbers k v.0 (omega (arith, g.few, c.loop-k-test.true)) order
+    ∙ ne_eqb k (length flat / 9) (λ e. omega (arith, c.loop-k-test.true)) in
+    record { answer = rw c.from_residual.ensures short }
 
 pub loop-k-preserved : goal.loop-k-preserved
-loop-k-preserved c = let next = c.next_row-j in
+loop-k-preserved c =
+    let flat = c.args.rows.now in
     let v = c.loop-k.invariant in
-    let g = v.4 in
-    let small : next.result % 32 ≡ next.result = mod-eq_of_lt (omega (arith, g.few)) in
+    let g = c.requires in
+    let j = c.in_ok-j.j in
+    let next : Some j ≡ next_of flat c.loop-k.placed = sym c.in_ok-j.was ∙ c.next_row.ensures.answer in
+    let wide : length flat / 9 ≤ length c.loop-k.numbers = omega (arith, v.0, g.few) in
+    let row = placing_row flat c.loop-k.numbers c.loop-k.placed c.loop-k.k v.1 g.apart.numbers c.loop-k-test.true wide j next in
+    let small : j % 32 ≡ j = mod-eq_of_lt (omega (arith, row, g.few)) in
     let word = rw small at c.with-placed.ensures.answer in (
-      refl,
-      search rules,
-      simp length-set v.2,
-      v.3,
-      g,
-      rw (c.number_at-x.ensures.answer, word)
-          (placing_more c.args.rows.now c.loop-k.numbers c.loop-k.placed c.loop-k.k v.5 g.apart.numbers (omega arith) (omega (arith, g.few)) next.result next.ensures.answer (omega arith)),
+      simp length-set v.0,
+      rw (c.number_at.ensures.answer, word) (placing_more flat c.loop-k.numbers c.loop-k.placed c.loop-k.k v.1 g.apart.numbers c.loop-k-test.true wide j next),
     )
 
 pub returns : goal.returns
-returns c = record { answer = picked ((goal.at.returns c).At-loop-k) (order_of_all c.args.rows.now c.loop-k.numbers c.loop-k.placed c.loop-k.k c.loop-k.invariant.5 (omega arith)) }
+returns c =
+    let flat = c.args.rows.now in
+    let v = c.loop-k.invariant in
+    let k = c.loop-k.k in
+    let all : k ≡ length flat / 9 = omega (arith, c.loop-k.auto.k-end, c.loop-k-test.false) in
+    let order = order_of_all flat c.loop-k.numbers c.loop-k.placed k v.1 (omega (arith, all)) in
+    let full = acyclic_of_count flat c.requires c.loop-k.numbers k v.0 (omega (arith, all, c.requires.few)) order ∙ eq-eqb k (length flat / 9) all in
+    record { answer = (v.0, full, rw all at order) }
