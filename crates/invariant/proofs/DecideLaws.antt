@@ -1,7 +1,7 @@
 -- A decision keeps the invariant: commit, if the candidate fits, and it does if it makes no cycle with the kept rows; else its slot is
 -- freed.
 -- Assumes nothing.
-use mathlib.Core.Path.{◌≡◌, refl, ap, subst, ◌∙◌}
+use mathlib.Core.Path.{◌≡◌, sym, refl, ap, subst, ◌∙◌}
 use mathlib.Core.Bool.{true, false}
 use mathlib.Core.List.{List, ◌∷◌, map}
 use mathlib.Core.Logic.{◌⊎◌, inl, inr}
@@ -28,7 +28,9 @@ use Rattle.method.specs.Slots.{has_number, slot_of, row_of_number, kept, entry_o
 use Rattle.method.specs.Conditions.{Closed, Unknown, NotPrepared}
 use Rattle.method.specs.Effects.{committed_row, raised, decided}
 use Rattle.method.proofs.RecordLaws.{never, prepared_iff, committed_iff}
-use Rattle.method.proofs.SlotLaws.{first_of_set, kept_of_place, place_of_kept}
+use Rattle.std.proofs.lemmas.List.Folds.{position_or_len-set}
+use Rattle.std.proofs.lemmas.List.Sums.{passes_at_first}
+use Rattle.method.proofs.SlotLaws.{kept_of_place, place_of_kept}
 use Rattle.method.proofs.ConditionLaws.{has_number_iff}
 use Rattle.method.proofs.RowLaws.{ticket_part, length_raised, raised_other, raised_listed}
 use Rattle.method.specs.Seen.{IsActive, IsCommitted, Has, tick}
@@ -105,7 +107,8 @@ module _ (t : Table) (es : List Entry) (v : Invariant t es) (n : ℕ) (nc : ¬ C
   pub row_committed : row_of_number (decided t n true).table n ≡ committed_row t q
   unfolding decided committed_row slot_of
   row_committed =
-      ap (λ (i : ℕ). get_or (set t.rows at (committed_row t q)) i past_end) (first_of_set (has_number n) t.rows (committed_row t q) ((has_number_iff n (committed_row t q)).1 ((λ f. never (cc)), (found t n nu).named)) slot)
+      ap (λ (i : ℕ). get_or (set t.rows at (committed_row t q)) i past_end) (position_or_len-set (has_number n) t.rows at (committed_row t q) past_end
+          ((has_number_iff n (committed_row t q)).1 ((λ f. never (cc)), (found t n nu).named) ∙ sym (passes_at_first (has_number n) t.rows past_end slot)))
       ∙ get_or-set_same t.rows at (committed_row t q) past_end slot
 
   pub entry_committed : entry_of (row_of_number (decided t n true).table n) ≡ entry_of q

@@ -2,14 +2,16 @@
 -- nothing.
 use Rattle.std.specs.Prelude.{List, ◌∷◌}
 use Rattle.orders.specs.Entries.{Entry}
+use Rattle.method.specs.Calls.{CallAnswer}
+use Rattle.std.specs.Prelude.{Ok, Err}
 use Rattle.method.specs.declared.Table.{Table}
 use Rattle.method.specs.declared.Answer.{Answer}
 use Rattle.method.specs.Slots.{row_of_number, entry_of}
 
-abbrev pub noted : Table → Answer → List Entry → List Entry
-noted u Answer.Done es = es
-noted u (Answer.Begun n) es = es
-noted u (Answer.Commit n) es = entry_of (row_of_number u n.0) ∷ es
-noted u (Answer.Cycle n) es = es
-noted u (Answer.Swept k) es = es
-noted u (Answer.Refused k) es = es
+abbrev pub noted : Table → CallAnswer → List Entry → List Entry
+noted u (Ok Answer.Done) es = es
+noted u (Ok (Answer.Begun n)) es = es
+noted u (Ok (Answer.Commit n)) es = entry_of (row_of_number u n.0) ∷ es
+noted u (Ok (Answer.Cycle n)) es = es
+noted u (Ok (Answer.Swept k)) es = es
+noted u (Err k) es = es

@@ -7,10 +7,11 @@ ghost use Rattle.std.specs.Prelude.{◌≡◌};
 ghost use Rattle.method.specs.Calls.Call.{open_with, begin as beginCall, report_ticket, report_prepared, abort as abortCall, decide as decideCall, forget as forgetCall, sweep as sweepCall};
 ghost use Rattle.table.specs.Shut.{answer_to, table_after};
 
-use method::{Answer, Number, Ticket};
-use table::{Answered, Table};
+use method::{Answer, Answered, Number, Ticket};
+use refusals::Refusal;
+use table::Table;
 
-pub fn open_with(t: &mut Table, first: Number, floors: &[u32]) -> Answer
+pub fn open_with(t: &mut Table, first: Number, floors: &[u32]) -> Result<Answer, Refusal>
     ensures answer { result ≡ answer_to t.old (open_with first.0 floors.now) }
     ensures table { t.new ≡ table_after t.old (open_with first.0 floors.now) }
 {
@@ -19,7 +20,7 @@ pub fn open_with(t: &mut Table, first: Number, floors: &[u32]) -> Answer
     r.answer
 }
 
-pub fn lend_open_with(mut t: Table, first: Number, floors: &[u32]) -> Answered
+pub fn lend_open_with(mut t: Table, first: Number, floors: &[u32]) -> Answered<Table>
     ensures answer { result.answer ≡ answer_to t (open_with first.0 floors.now) }
     ensures table { result.table ≡ table_after t (open_with first.0 floors.now) }
 {
@@ -30,7 +31,7 @@ pub fn lend_open_with(mut t: Table, first: Number, floors: &[u32]) -> Answered
     }
 }
 
-pub fn begin(t: &mut Table, sites: u8) -> Answer
+pub fn begin(t: &mut Table, sites: u8) -> Result<Answer, Refusal>
     ensures answer { result ≡ answer_to t.old (beginCall sites) }
     ensures table { t.new ≡ table_after t.old (beginCall sites) }
 {
@@ -39,7 +40,7 @@ pub fn begin(t: &mut Table, sites: u8) -> Answer
     r.answer
 }
 
-pub fn lend_begin(mut t: Table, sites: u8) -> Answered
+pub fn lend_begin(mut t: Table, sites: u8) -> Answered<Table>
     ensures answer { result.answer ≡ answer_to t (beginCall sites) }
     ensures table { result.table ≡ table_after t (beginCall sites) }
 {
@@ -50,7 +51,7 @@ pub fn lend_begin(mut t: Table, sites: u8) -> Answered
     }
 }
 
-pub fn report_ticket(t: &mut Table, n: Number, s: u8, k: Ticket) -> Answer
+pub fn report_ticket(t: &mut Table, n: Number, s: u8, k: Ticket) -> Result<Answer, Refusal>
     ensures answer { result ≡ answer_to t.old (report_ticket n.0 s k.0) }
     ensures table { t.new ≡ table_after t.old (report_ticket n.0 s k.0) }
 {
@@ -59,7 +60,7 @@ pub fn report_ticket(t: &mut Table, n: Number, s: u8, k: Ticket) -> Answer
     r.answer
 }
 
-pub fn lend_report_ticket(mut t: Table, n: Number, s: u8, k: Ticket) -> Answered
+pub fn lend_report_ticket(mut t: Table, n: Number, s: u8, k: Ticket) -> Answered<Table>
     ensures answer { result.answer ≡ answer_to t (report_ticket n.0 s k.0) }
     ensures table { result.table ≡ table_after t (report_ticket n.0 s k.0) }
 {
@@ -70,7 +71,7 @@ pub fn lend_report_ticket(mut t: Table, n: Number, s: u8, k: Ticket) -> Answered
     }
 }
 
-pub fn report_prepared(t: &mut Table, n: Number, s: u8) -> Answer
+pub fn report_prepared(t: &mut Table, n: Number, s: u8) -> Result<Answer, Refusal>
     ensures answer { result ≡ answer_to t.old (report_prepared n.0 s) }
     ensures table { t.new ≡ table_after t.old (report_prepared n.0 s) }
 {
@@ -79,7 +80,7 @@ pub fn report_prepared(t: &mut Table, n: Number, s: u8) -> Answer
     r.answer
 }
 
-pub fn lend_report_prepared(mut t: Table, n: Number, s: u8) -> Answered
+pub fn lend_report_prepared(mut t: Table, n: Number, s: u8) -> Answered<Table>
     ensures answer { result.answer ≡ answer_to t (report_prepared n.0 s) }
     ensures table { result.table ≡ table_after t (report_prepared n.0 s) }
 {
@@ -90,7 +91,7 @@ pub fn lend_report_prepared(mut t: Table, n: Number, s: u8) -> Answered
     }
 }
 
-pub fn abort(t: &mut Table, n: Number) -> Answer
+pub fn abort(t: &mut Table, n: Number) -> Result<Answer, Refusal>
     ensures answer { result ≡ answer_to t.old (abortCall n.0) }
     ensures table { t.new ≡ table_after t.old (abortCall n.0) }
 {
@@ -99,7 +100,7 @@ pub fn abort(t: &mut Table, n: Number) -> Answer
     r.answer
 }
 
-pub fn lend_abort(mut t: Table, n: Number) -> Answered
+pub fn lend_abort(mut t: Table, n: Number) -> Answered<Table>
     ensures answer { result.answer ≡ answer_to t (abortCall n.0) }
     ensures table { result.table ≡ table_after t (abortCall n.0) }
 {
@@ -110,7 +111,7 @@ pub fn lend_abort(mut t: Table, n: Number) -> Answered
     }
 }
 
-pub fn decide(t: &mut Table, n: Number) -> Answer
+pub fn decide(t: &mut Table, n: Number) -> Result<Answer, Refusal>
     ensures answer { result ≡ answer_to t.old (decideCall n.0) }
     ensures table { t.new ≡ table_after t.old (decideCall n.0) }
 {
@@ -119,7 +120,7 @@ pub fn decide(t: &mut Table, n: Number) -> Answer
     r.answer
 }
 
-pub fn lend_decide(mut t: Table, n: Number) -> Answered
+pub fn lend_decide(mut t: Table, n: Number) -> Answered<Table>
     ensures answer { result.answer ≡ answer_to t (decideCall n.0) }
     ensures table { result.table ≡ table_after t (decideCall n.0) }
 {
@@ -130,7 +131,7 @@ pub fn lend_decide(mut t: Table, n: Number) -> Answered
     }
 }
 
-pub fn forget(t: &mut Table, n: Number) -> Answer
+pub fn forget(t: &mut Table, n: Number) -> Result<Answer, Refusal>
     ensures answer { result ≡ answer_to t.old (forgetCall n.0) }
     ensures table { t.new ≡ table_after t.old (forgetCall n.0) }
 {
@@ -139,7 +140,7 @@ pub fn forget(t: &mut Table, n: Number) -> Answer
     r.answer
 }
 
-pub fn lend_forget(mut t: Table, n: Number) -> Answered
+pub fn lend_forget(mut t: Table, n: Number) -> Answered<Table>
     ensures answer { result.answer ≡ answer_to t (forgetCall n.0) }
     ensures table { result.table ≡ table_after t (forgetCall n.0) }
 {
@@ -150,7 +151,7 @@ pub fn lend_forget(mut t: Table, n: Number) -> Answered
     }
 }
 
-pub fn sweep(t: &mut Table) -> Answer
+pub fn sweep(t: &mut Table) -> Result<Answer, Refusal>
     ensures answer { result ≡ answer_to t.old sweepCall }
     ensures table { t.new ≡ table_after t.old sweepCall }
 {
@@ -159,7 +160,7 @@ pub fn sweep(t: &mut Table) -> Answer
     r.answer
 }
 
-pub fn lend_sweep(mut t: Table) -> Answered
+pub fn lend_sweep(mut t: Table) -> Answered<Table>
     ensures answer { result.answer ≡ answer_to t sweepCall }
     ensures table { result.table ≡ table_after t sweepCall }
 {

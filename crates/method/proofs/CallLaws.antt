@@ -4,8 +4,9 @@ use mathlib.Core.Path.{◌≡◌, refl, sym, ap, ◌∙◌}
 use mathlib.Core.Bool.{Bool, true, false, false≢true}
 use mathlib.Core.List.{List, [], ◌∷◌}
 use mathlib.Core.Logic.{◌↔◌, inl, inr}
-use mathlib.Core.Option.{Option, none, some}
 use Prim.Native.Nat.{ℕ}
+use Rattle.std.specs.Prelude.{Option, Some, None, Result, Ok, Err}
+use Rattle.refusals.specs.declared.Refusal.{Refusal}
 use Rattle.graph.proofs.TestLaws.{iff_not}
 use Rattle.method.specs.declared.Report.{Report}
 use Rattle.method.specs.declared.Table.{Table}
@@ -20,7 +21,7 @@ use Rattle.method.proofs.RecordLaws.{never}
 use Rattle.method.proofs.ConditionLaws.{closed_iff, bad_opening_iff, unknown_iff, bad_sites_iff, not_listed_iff, no_step_iff, not_active_iff, not_committed_iff, not_prepared_iff, not_above_iff, taken_iff, full_iff, used_up_iff, may_not_forget_iff}
 
 -- a row of conditions and a row of tests, the same check by check
-abbrev Joined : List (ℕ × Type 0) → List (ℕ × Bool) → Type 0
+abbrev Joined : List (Refusal × Type 0) → List (Refusal × Bool) → Type 0
 Joined [] [] = Unit {0}
 Joined [] (c ∷ cs) = ⊥
 Joined (r ∷ rs) [] = ⊥
@@ -43,46 +44,46 @@ checks_mean t (forget n) =
 checks_mean t sweep = (refl, closed_iff t, tt)
 
 -- the first test that passes is the first condition that holds
-first_holds : (rs : List (ℕ × Type 0)) (cs : List (ℕ × Bool)) → Joined rs cs → (k : ℕ) → first_true cs ≡ some k → FirstHolds rs k
+first_holds : (rs : List (Refusal × Type 0)) (cs : List (Refusal × Bool)) → Joined rs cs → (k : Refusal) → first_true cs ≡ Some k → FirstHolds rs k
 first_holds [] [] j k e = never (cc)
 first_holds [] (c ∷ cs) j k e = absurd j
 first_holds (r ∷ rs) [] j k e = absurd j
 first_holds (r ∷ rs) (c ∷ cs) (p, h, j) k e = go c.1 c.0 h p (first_holds rs cs j k) e
   where
-    go : (b : Bool) (i : ℕ) → (b ≡ true) ↔ r.1 → r.0 ≡ i → (first_true cs ≡ some k → FirstHolds rs k) → first_true ((i, b) ∷ cs) ≡ some k → FirstHolds (r ∷ rs) k
+    go : (b : Bool) (i : Refusal) → (b ≡ true) ↔ r.1 → r.0 ≡ i → (first_true cs ≡ Some k → FirstHolds rs k) → first_true ((i, b) ∷ cs) ≡ Some k → FirstHolds (r ∷ rs) k
     go true i h p rest e = inl (h.0 refl, (cc))
     go false i h p rest e = inr (λ x. false≢true (h.1 x), rest e)
 
-none_holds : (rs : List (ℕ × Type 0)) (cs : List (ℕ × Bool)) → Joined rs cs → first_true cs ≡ none → NoneHolds rs
+none_holds : (rs : List (Refusal × Type 0)) (cs : List (Refusal × Bool)) → Joined rs cs → first_true cs ≡ None → NoneHolds rs
 none_holds [] [] j e = tt
 none_holds [] (c ∷ cs) j e = absurd j
 none_holds (r ∷ rs) [] j e = absurd j
 none_holds (r ∷ rs) (c ∷ cs) (p, h, j) e = go c.1 c.0 h (none_holds rs cs j) e
   where
-    go : (b : Bool) (i : ℕ) → (b ≡ true) ↔ r.1 → (first_true cs ≡ none → NoneHolds rs) → first_true ((i, b) ∷ cs) ≡ none → NoneHolds (r ∷ rs)
+    go : (b : Bool) (i : Refusal) → (b ≡ true) ↔ r.1 → (first_true cs ≡ None → NoneHolds rs) → first_true ((i, b) ∷ cs) ≡ None → NoneHolds (r ∷ rs)
     go true i h rest e = never (cc)
     go false i h rest e = (λ x. false≢true (h.1 x), rest e)
 
 -- of two that hold first, both are the same; where none holds, none holds first
-pub first_unique : (rs : List (ℕ × Type 0)) (j k : ℕ) → FirstHolds rs j → FirstHolds rs k → j ≡ k
+pub first_unique : (rs : List (Refusal × Type 0)) (j k : Refusal) → FirstHolds rs j → FirstHolds rs k → j ≡ k
 first_unique [] j k p q = absurd p
 first_unique (r ∷ rs) j k (inl p) (inl q) = sym p.1 ∙ q.1
 first_unique (r ∷ rs) j k (inl p) (inr q) = absurd (q.0 p.0)
 first_unique (r ∷ rs) j k (inr p) (inl q) = absurd (p.0 q.0)
 first_unique (r ∷ rs) j k (inr p) (inr q) = first_unique rs j k p.1 q.1
 
-pub none_or_first : (rs : List (ℕ × Type 0)) (k : ℕ) → NoneHolds rs → ¬ FirstHolds rs k
+pub none_or_first : (rs : List (Refusal × Type 0)) (k : Refusal) → NoneHolds rs → ¬ FirstHolds rs k
 none_or_first [] k n f = f
 none_or_first (r ∷ rs) k (n, m) (inl p) = n p.0
 none_or_first (r ∷ rs) k (n, m) (inr p) = none_or_first rs k m p.1
 
 -- what is done is never a refusal
-decided_not_refused : (t : Table) (n : ℕ) (b : Bool) (k : ℕ) → ¬ ((decided t n b).answer ≡ Answer.Refused k)
+decided_not_refused : (t : Table) (n : ℕ) (b : Bool) (k : Refusal) → ¬ ((decided t n b).answer ≡ Err k)
 unfolding decided
 decided_not_refused t n true k e = never (cc)
 decided_not_refused t n false k e = never (cc)
 
-effect_not_refused : (t : Table) (c : Call) (k : ℕ) → ¬ ((effect t c).answer ≡ Answer.Refused k)
+effect_not_refused : (t : Table) (c : Call) (k : Refusal) → ¬ ((effect t c).answer ≡ Err k)
 unfolding effect
 effect_not_refused t (open_with first floors) k e = never (cc)
 effect_not_refused t (begin sites) k e = never (cc)
@@ -95,34 +96,34 @@ effect_not_refused t sweep k e = never (cc)
 
 module _ (t : Table) (c : Call) where
   -- the two ways a step can go
-  pub data Steps (a : Answered) : Type 0 where
-    stopped : (k : ℕ) → FirstHolds (rules t c) k → a.table ≡ t → a.answer ≡ Answer.Refused k → Steps a
+  pub data Steps (a : Answered Table) : Type 0 where
+    stopped : (k : Refusal) → FirstHolds (rules t c) k → a.table ≡ t → a.answer ≡ Err k → Steps a
     passed : NoneHolds (rules t c) → a ≡ effect t c → Steps a
 
   pub step_goes : Steps (step t c)
   unfolding step act
   step_goes = go (first_true (checks t c)) refl
     where
-      go : (o : Option ℕ) → first_true (checks t c) ≡ o → Steps (act t c o)
-      go none e = passed (none_holds (rules t c) (checks t c) (checks_mean t c) e) refl
-      go (some k) e = stopped k (first_holds (rules t c) (checks t c) (checks_mean t c) k e) refl refl
+      go : (o : Option Refusal) → first_true (checks t c) ≡ o → Steps (act t c o)
+      go None e = passed (none_holds (rules t c) (checks t c) (checks_mean t c) e) refl
+      go (Some k) e = stopped k (first_holds (rules t c) (checks t c) (checks_mean t c) k e) refl refl
 
-  pub refused_keeps : (k : ℕ) → (step t c).answer ≡ Answer.Refused k → (step t c).table ≡ t
+  pub refused_keeps : (k : Refusal) → (step t c).answer ≡ Err k → (step t c).table ≡ t
   refused_keeps k e = go step_goes
     where
       go : Steps (step t c) → (step t c).table ≡ t
       go (stopped j f p q) = p
-      go (passed n p) = absurd (effect_not_refused t c k (ap (λ (a : Answered). a.answer) (sym p) ∙ e))
+      go (passed n p) = absurd (effect_not_refused t c k (ap (λ (a : Answered Table). a.answer) (sym p) ∙ e))
 
-  pub refused_exactly : (k : ℕ) → ((step t c).answer ≡ Answer.Refused k) ↔ FirstHolds (rules t c) k
+  pub refused_exactly : (k : Refusal) → ((step t c).answer ≡ Err k) ↔ FirstHolds (rules t c) k
   refused_exactly k = (λ e. forth e step_goes, λ f. back f step_goes)
     where
-      forth : (step t c).answer ≡ Answer.Refused k → Steps (step t c) → FirstHolds (rules t c) k
+      forth : (step t c).answer ≡ Err k → Steps (step t c) → FirstHolds (rules t c) k
       forth e (stopped j f p q) = let h : j ≡ k = cc in rw h at f
-      forth e (passed n p) = absurd (effect_not_refused t c k (ap (λ (a : Answered). a.answer) (sym p) ∙ e))
+      forth e (passed n p) = absurd (effect_not_refused t c k (ap (λ (a : Answered Table). a.answer) (sym p) ∙ e))
 
-      back : FirstHolds (rules t c) k → Steps (step t c) → (step t c).answer ≡ Answer.Refused k
-      back f (stopped j g p q) = q ∙ ap {B = Answer} (λ (i : ℕ). Answer.Refused i) (first_unique (rules t c) j k g f)
+      back : FirstHolds (rules t c) k → Steps (step t c) → (step t c).answer ≡ Err k
+      back f (stopped j g p q) = q ∙ ap {B = Result Answer Refusal} Err (first_unique (rules t c) j k g f)
       back f (passed n p) = absurd (none_or_first (rules t c) k n f)
 
   pub done_exactly : NoneHolds (rules t c) → step t c ≡ effect t c

@@ -1,63 +1,55 @@
--- A step by the first check that stops it, and a search for a number or a free slot that ends: in a table of 32 slots the place
--- 32 is none. Assumes nothing.
-use mathlib.Core.Path.{◌≡◌, ◌∙◌}
-use mathlib.Core.Bool.{Bool, true, false, not}
-use mathlib.Core.List.{List, ◌∷◌}
-use mathlib.Core.Option.{none, some}
-use mathlib.Core.Logic.{inl, inr}
-use Prim.Native.Nat.{ℕ, ◌<◌}
-use native.Mathlib.Omega.{arith}
-use lib.ListN.{length}
-use Rattle.graph.specs.Lists.{any_of}
-use Rattle.graph.proofs.TestLaws.{true_or_false}
-use Rattle.method.specs.declared.Answer.{Answer}
-use Rattle.method.specs.declared.Row.{Row}
+-- A step by what its checks gave, and a function that makes some of the checks before others. Assumes nothing.
+use mathlib.Core.Path.{◌≡◌, refl, sym, ap, ◌∙◌}
+use mathlib.Core.Bool.{Bool, true, false, not, cond}
+use mathlib.Core.List.{List, [], ◌∷◌, ◌++◌}
+use Rattle.std.specs.Prelude.{Option, Some, None, Result, Ok, Err}
+use Rattle.refusals.specs.declared.Refusal.{Refusal}
 use Rattle.method.specs.declared.Table.{Table}
-use Rattle.method.specs.Records.{is_free, past_end}
-use Rattle.method.specs.Slots.{first_at, has_number, slot_of, free_slot}
-use Rattle.method.specs.Conditions.{unknown, is_full}
-use Rattle.method.specs.Calls.{Call, checks, first_true}
+use Rattle.method.specs.Calls.{Call, checks, first_true, checked}
 use Rattle.method.specs.Effects.{answered, effect, act, step}
-use Rattle.method.proofs.SlotLaws.{first_found, first_missing}
+use Rattle.method.proofs.RecordLaws.{never}
 
--- a step by the first check that passes, and the first check by those before it
-pub stopped : (t : Table) (c : Call) (k : ℕ) → first_true (checks t c) ≡ some k → step t c ≡ answered t (Answer.Refused k)
-unfolding step act
-stopped t c k e = rw e
+-- what a function of checks gave, said of one that makes the same checks and then more
+module _ {A B : Type 0} where
+  pub stops : (cs ds : List (Refusal × Bool)) (a : A) (b : B) {k : Refusal} → checked cs a ≡ Err k → checked (cs ++ ds) b ≡ Err k
+  stops [] ds a b e = never (cc)
+  stops (c ∷ cs) ds a b {k} e = go c.1 (stops cs ds a b) e
+    where
+      go : (x : Bool) → (checked cs a ≡ Err k → checked (cs ++ ds) b ≡ Err k) → cond x (Err c.0) (checked cs a) ≡ Err k → cond x (Err c.0) (checked (cs ++ ds) b) ≡ Err k
+      go true rest e = let h : c.0 ≡ k = cc in ap {B = Result B Refusal} Err h
+      go false rest e = rest e
 
-pub unstopped : (t : Table) (c : Call) → first_true (checks t c) ≡ none → step t c ≡ effect t c
-unfolding step act
-unstopped t c e = rw e
+  pub goes_on : (cs ds : List (Refusal × Bool)) (a : A) (b : B) {v : A} → checked cs a ≡ Ok v → (checked (cs ++ ds) b ≡ checked ds b) × (v ≡ a)
+  goes_on [] ds a b {v} e = (refl, (let h : a ≡ v = cc in sym h))
+  goes_on (c ∷ cs) ds a b {v} e = go c.1 (goes_on cs ds a b) e
+    where
+      go : (x : Bool) → (checked cs a ≡ Ok v → (checked (cs ++ ds) b ≡ checked ds b) × (v ≡ a)) → cond x (Err c.0) (checked cs a) ≡ Ok v
+          → (cond x (Err c.0) (checked (cs ++ ds) b) ≡ checked ds b) × (v ≡ a)
+      go true rest e = never (cc)
+      go false rest e = rest e
 
-pub first_true_lem : (k : ℕ) (b : Bool) (cs : List (ℕ × Bool)) → b ≡ true → first_true ((k, b) ∷ cs) ≡ some k
-first_true_lem k b cs e = rw e
+-- and of the first test that passes, and the step
+module _ {A : Type 0} where
+  first_of_err : (cs : List (Refusal × Bool)) (a : A) (k : Refusal) → checked cs a ≡ Err k → first_true cs ≡ Some k
+  first_of_err [] a k e = never (cc)
+  first_of_err (c ∷ cs) a k e = go c.1 (first_of_err cs a k) e
+    where
+      go : (x : Bool) → (checked cs a ≡ Err k → first_true cs ≡ Some k) → cond x (Err c.0) (checked cs a) ≡ Err k → first_true ((c.0, x) ∷ cs) ≡ Some k
+      go true rest e = let h : c.0 ≡ k = cc in ap {B = Option Refusal} Some h
+      go false rest e = rest e
 
-pub first_false : (k : ℕ) (b : Bool) (cs : List (ℕ × Bool)) → b ≡ false → first_true ((k, b) ∷ cs) ≡ first_true cs
-first_false k b cs e = rw e
+  none_of_ok : (cs : List (Refusal × Bool)) (a v : A) → checked cs a ≡ Ok v → first_true cs ≡ None
+  none_of_ok [] a v e = refl
+  none_of_ok (c ∷ cs) a v e = go c.1 (none_of_ok cs a v) e
+    where
+      go : (x : Bool) → (checked cs a ≡ Ok v → first_true cs ≡ None) → cond x (Err c.0) (checked cs a) ≡ Ok v → first_true ((c.0, x) ∷ cs) ≡ None
+      go true rest e = never (cc)
+      go false rest e = rest e
 
-module _ (f : Row → Bool) (rs : List Row) (l : length rs ≡ 32) where
-  none_of_end : first_at f rs ≡ 32 → not (any_of f rs) ≡ true
-  none_of_end e = elim (true_or_false (any_of f rs)) [ inl a ↦ absurd (omega (arith, (first_found f rs past_end a).0)) | inr a ↦ rw a ]
+  pub refused_step : (t : Table) (c : Call) (a : A) {k : Refusal} → checked (checks t c) a ≡ Err k → step t c ≡ answered t (Err k)
+  unfolding step act
+  refused_step t c a {k} e = rw (first_of_err (checks t c) a k e)
 
-  some_of_slot : (first_at f rs ≡ 32 → ⊥) → (not (any_of f rs) ≡ false) × (first_at f rs < 32)
-  some_of_slot n = elim (true_or_false (any_of f rs)) [
-    | inl a ↦ (rw a, omega (arith, (first_found f rs past_end a).0))
-    | inr a ↦ absurd (n (first_missing f rs a ∙ l))
-  ]
-
-module _ (t : Table) (l : length t.rows ≡ 32) where
-  pub unknown_of_end : (n : ℕ) → slot_of t n ≡ 32 → unknown t n ≡ true
-  unfolding slot_of
-  unknown_of_end n = none_of_end (has_number n) t.rows l
-
-  pub known_of_slot : (n : ℕ) → (slot_of t n ≡ 32 → ⊥) → (unknown t n ≡ false) × (slot_of t n < 32)
-  unfolding slot_of
-  known_of_slot n = some_of_slot (has_number n) t.rows l
-
-  pub full_of_end : free_slot t ≡ 32 → is_full t ≡ true
-  unfolding free_slot
-  full_of_end = none_of_end (λ (r : Row). is_free r.state) t.rows l
-
-  pub room_of_slot : (free_slot t ≡ 32 → ⊥) → (is_full t ≡ false) × (free_slot t < 32)
-  unfolding free_slot
-  room_of_slot = some_of_slot (λ (r : Row). is_free r.state) t.rows l
+  pub passed_step : (t : Table) (c : Call) (a : A) {v : A} → checked (checks t c) a ≡ Ok v → (step t c ≡ effect t c) × (v ≡ a)
+  unfolding step act
+  passed_step t c a {v} e = (rw (none_of_ok (checks t c) a v e), (goes_on (checks t c) [] a a e).1)

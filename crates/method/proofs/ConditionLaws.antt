@@ -22,7 +22,7 @@ use Rattle.method.specs.Records.{part_at, in_use, active, committed, is_free, is
 use Rattle.method.specs.Stages.{step_of}
 use Rattle.method.specs.Slots.{has_number, kept, active_rows}
 use Rattle.method.specs.Conditions.{Closed, is_closed, BadOpening, bad_opening, Unknown, unknown, BadSites, bad_sites, NotListed, not_listed, NoStep, no_step, NotPrepared, unprepared, not_prepared, NotAbove, not_above, Taken, holds_other, taken, Full, is_full, UsedUp, used_up, HasPred, has_pred, HeldBack, held_back, MayNotForget, may_not_forget}
-use Rattle.method.proofs.RecordLaws.{free_iff, active_iff, committed_iff, prepared_iff, refused_iff}
+use Rattle.method.proofs.RecordLaws.{free_iff, active_iff, committed_iff, prepared_iff, none_iff}
 
 eq_iff : (a b : ℕ) → (eqb a b ≡ true) ↔ (a ≡ b)
 eq_iff a b = (eqb-true a b, eq-eqb a b)
@@ -59,7 +59,7 @@ pub not_listed_iff : (r : Row) (s : ℕ) → (not_listed r s ≡ true) ↔ NotLi
 not_listed_iff r s = iff_not (listed r.sites s) (member_of_listed r.sites s, listed_of_member r.sites)
 
 pub no_step_iff : (r : Row) (s : ℕ) (p : Report) → (no_step r s p ≡ true) ↔ NoStep r s p
-no_step_iff r s p = refused_iff (step_of (part_at r s).stage p)
+no_step_iff r s p = none_iff (step_of (part_at r s).stage p)
 
 pub unprepared_iff : (r : Row) → (unprepared r ≡ true) ↔ ((s : ℕ) × (s ∈ sites_of r.sites) × ((part_at r s).stage ≢ Stage.Prepared))
 unfolding unprepared

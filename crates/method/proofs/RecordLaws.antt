@@ -1,4 +1,4 @@
--- What a state, a stage and a step are, asked by a test. Assumes nothing.
+-- What a state and a stage are, asked by a test, and whether a step leads anywhere. Assumes nothing.
 use mathlib.Core.Path.{◌≡◌, refl}
 use mathlib.Core.Bool.{true, false≢true}
 use mathlib.Core.Logic.{◌↔◌}
@@ -6,9 +6,8 @@ use native.Mathlib.Omega.{arith}
 use Prim.Native.Nat.{ℕ}
 use Rattle.method.specs.declared.Stage.{Stage}
 use Rattle.method.specs.declared.State.{State}
-use Rattle.method.specs.declared.Step.{Step}
+use Rattle.std.specs.Prelude.{Option, Some, None, is_none}
 use Rattle.method.specs.Records.{is_free, is_active, is_committed, is_prepared}
-use Rattle.method.specs.Stages.{is_refused}
 
 -- two different cases are never the same: `cc` finds 0 ≡ 1 from their equation
 pub never : {P : Type 0} → ◌≡◌ {A = ℕ} 0 1 → P
@@ -34,6 +33,6 @@ prepared_iff Stage.Begun = (λ e. absurd (false≢true e), λ e. never (cc))
 prepared_iff Stage.Ticketed = (λ e. absurd (false≢true e), λ e. never (cc))
 prepared_iff Stage.Prepared = (λ e. refl, λ e. refl)
 
-pub refused_iff : (x : Step) → (is_refused x ≡ true) ↔ (x ≡ Step.Refused)
-refused_iff (Step.To g) = (λ e. absurd (false≢true e), λ e. never (cc))
-refused_iff Step.Refused = (λ e. refl, λ e. refl)
+pub none_iff : (x : Option Stage) → (is_none x ≡ true) ↔ (x ≡ None)
+none_iff (Some g) = (λ e. absurd (false≢true e), λ e. never (cc))
+none_iff None = (λ e. refl, λ e. refl)

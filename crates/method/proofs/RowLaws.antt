@@ -10,6 +10,7 @@ use Prim.Native.Nat.{ℕ, zero, suc, ◌<◌, max}
 use native.Mathlib.Omega.{arith}
 use lib.ListN.{length, get_or, set, replicate, length-set, length-map, get_or-map}
 use lib.Seq.{get_or-set_same, get_or-set_other}
+use Rattle.std.specs.Prelude.{unwrap_or}
 use Rattle.graph.specs.Lists.{◌∈◌}
 use Rattle.orders.specs.Arrow.{ticket_at}
 use Rattle.sites.specs.Sites.{Rising}
@@ -18,7 +19,7 @@ use Rattle.method.specs.declared.Part.{Part}
 use Rattle.method.specs.declared.Row.{Row}
 use Rattle.method.specs.declared.Report.{Report}
 use Rattle.method.specs.Records.{ticket, part, no_part, part_at, tickets_of}
-use Rattle.method.specs.Stages.{first_stage, step_of, stage_to}
+use Rattle.method.specs.Stages.{first_stage, step_of}
 use Rattle.method.specs.Effects.{based, raised, reported}
 
 pub ticket_part : (r : Row) (s : ℕ) → ticket_at (tickets_of r) s ≡ (part_at r s).ticket.0
@@ -88,7 +89,7 @@ module _ (r : Row) where
 -- a report: the site that it names, and the others
 module _ (r : Row) (s : ℕ) (p : Report) (k : Ticket) where
   abbrev told : Part
-  told = part (stage_to (part_at r s).stage (step_of (part_at r s).stage p)) (part_at r s).base k
+  told = part (unwrap_or (step_of (part_at r s).stage p) (part_at r s).stage) (part_at r s).base k
 
   pub reported_same : s < length r.parts → part_at (reported r s p k) s ≡ told
   unfolding reported

@@ -1,5 +1,5 @@
--- A loop that looks at one place after the other for the first that passes: what is found from place i on. (For any that
--- passes, see SearchLaws of the graph.)
+-- A loop that looks at two lists of tickets site by site, and any of those that pass a test. (For any of one list that passes, see
+-- SearchLaws of the graph.)
 -- Assumes nothing.
 use mathlib.Core.Path.{◌≡◌, refl}
 use mathlib.Core.Bool.{Bool, true, false, cond, ◌&&◌, ◌||◌}
@@ -11,20 +11,6 @@ use lib.ListN.{length, get_or, drop, drop_of_length-le, length-map}
 use lib.Seq.{drop-cons}
 use Rattle.graph.specs.Lists.{any_of, keep}
 use Rattle.orders.specs.Arrow.{Tickets, ticket_at, any_site}
-use Rattle.method.specs.Slots.{first_at}
-
-module _ {A : Type 0} (f : A → Bool) (rows : List A) (d : A) (i : ℕ) where
-  pub first_hit : i < length rows → f (get_or rows i d) ≡ true → i + first_at f (drop i rows) ≡ i
-  unfolding first_at
-  first_hit h e = rw (drop-cons rows i d h, e) (omega arith)
-
-  pub first_skip : i < length rows → f (get_or rows i d) ≡ false → i + first_at f (drop i rows) ≡ i + 1 + first_at f (drop (i + 1) rows)
-  unfolding first_at
-  first_skip h e = rw (drop-cons rows i d h, e, add-one i) (omega arith)
-
-  pub first_end : length rows ≤ i → i + first_at f (drop i rows) ≡ i
-  unfolding first_at
-  first_end h = rw (drop_of_length-le rows h) (omega arith)
 
 -- the length of an array that a struct holds, from what owning the struct tells: `search (needs, unmapped)` finds it
 pub unmapped : (X Y : Type 0) (f : X → Y) (l : List X) (n : ℕ) → length (map f l) ≡ n → length l ≡ n

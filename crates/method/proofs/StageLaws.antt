@@ -14,7 +14,7 @@ use Rattle.graph.proofs.TestLaws.{true_not_false, false_of_not_true, or_of_left,
 use Rattle.graph.proofs.MemberLaws.{any_of_member}
 use Rattle.method.specs.declared.Stage.{Stage}
 use Rattle.method.specs.declared.Report.{Report}
-use Rattle.method.specs.declared.Step.{Step}
+use Rattle.std.specs.Prelude.{Option, Some, None}
 use Rattle.method.specs.Stages.{first_stage, step_of, given, report_no}
 
 -- all of them
@@ -61,9 +61,9 @@ equal_of_differ false true e = absurd (true_not_false refl e)
 equal_of_differ false false e = refl
 
 -- the table is wrong at an entry that leads on, if the site has had the report before, or then has had others than before and this one
-wrong : Stage → Report → Step → Bool
-wrong g p Step.Refused = false
-wrong g p (Step.To h) = given p g || any_of (λ x. differ (given x h) (given x g || same x p)) reports
+wrong : Stage → Report → Option Stage → Bool
+wrong g p None = false
+wrong g p (Some h) = given p g || any_of (λ x. differ (given x h) (given x g || same x p)) reports
 
 nowhere_wrong : any_of (λ g. any_of (λ p. wrong g p (step_of g p)) reports) stages ≡ false
 unfolding wrong differ
@@ -72,8 +72,8 @@ nowhere_wrong = refl
 none_of : {A : Type 0} (f : A → Bool) {x : A} {xs : List A} → x ∈ xs → any_of f xs ≡ false → f x ≡ false
 none_of f {x} m e = false_of_not_true (f x) (λ h. true_not_false (any_of_member f m h) e)
 
-module _ (g h : Stage) (p : Report) (st : step_of g p ≡ Step.To h) where
-  right : wrong g p (Step.To h) ≡ false
+module _ (g h : Stage) (p : Report) (st : step_of g p ≡ Some h) where
+  right : wrong g p (Some h) ≡ false
   right =
       let q : wrong g p (step_of g p) ≡ false = none_of (λ x. wrong g x (step_of g x)) (every_report p) (none_of (λ y. any_of (λ x. wrong y x (step_of y x)) reports) (every_stage g) nowhere_wrong) in
       rw st at q
@@ -94,16 +94,16 @@ given_first Report.Ticket = refl
 given_first Report.Prepared = refl
 
 -- where the table leads, and that it leads nowhere from prepared
-pub to_of_step : (g : Stage) (p : Report) → step_of g p ≢ Step.Refused → (h : Stage) × (step_of g p ≡ Step.To h)
+pub to_of_step : (g : Stage) (p : Report) → step_of g p ≢ None → (h : Stage) × (step_of g p ≡ Some h)
 to_of_step g p n = go (step_of g p) refl
   where
-    go : (x : Step) → step_of g p ≡ x → (h : Stage) × (step_of g p ≡ Step.To h)
-    go (Step.To h) e = (h, e)
-    go Step.Refused e = absurd (n e)
+    go : (x : Option Stage) → step_of g p ≡ x → (h : Stage) × (step_of g p ≡ Some h)
+    go (Some h) e = (h, e)
+    go None e = absurd (n e)
 
-no_step_of_prepared : (p : Report) → step_of Stage.Prepared p ≡ Step.Refused
+no_step_of_prepared : (p : Report) → step_of Stage.Prepared p ≡ None
 no_step_of_prepared Report.Ticket = refl
 no_step_of_prepared Report.Prepared = refl
 
-pub not_prepared_of_step : (g : Stage) (p : Report) → step_of g p ≢ Step.Refused → g ≢ Stage.Prepared
+pub not_prepared_of_step : (g : Stage) (p : Report) → step_of g p ≢ None → g ≢ Stage.Prepared
 not_prepared_of_step g p n e = n (rw e (no_step_of_prepared p))

@@ -1,16 +1,15 @@
 -- What each refusal looks at: the condition in the words of RULES, Refusals, and beside it the test that computes it.
 -- proofs/ConditionLaws.antt joins each pair both ways, on every table.
-use Rattle.std.specs.Prelude.{◌≡◌, Bool, not, ◌&&◌, ◌||◌, List, [], ◌≢◌, ◌⊎◌, ℕ, ◌<◌, ◌≤◌, eqb, leb, ltb, length}
+use Rattle.std.specs.Prelude.{◌≡◌, Bool, not, None, is_none, ◌&&◌, ◌||◌, List, [], ◌≢◌, ◌⊎◌, ℕ, ◌<◌, ◌≤◌, eqb, leb, ltb, length}
 use Rattle.graph.specs.Lists.{◌∈◌, any_of, is_nil}
 use Rattle.sites.specs.Sites.{sites_of, listed, Outside, outsideb}
 use Rattle.method.specs.declared.Stage.{Stage}
 use Rattle.method.specs.declared.State.{State}
 use Rattle.method.specs.declared.Report.{Report}
-use Rattle.method.specs.declared.Step.{Step}
 use Rattle.method.specs.declared.Row.{Row}
 use Rattle.method.specs.declared.Table.{Table}
 use Rattle.method.specs.Records.{part_at, is_free, in_use, active, is_prepared, Goes, goesb}
-use Rattle.method.specs.Stages.{step_of, is_refused}
+use Rattle.method.specs.Stages.{step_of}
 use Rattle.method.specs.Slots.{has_number, kept, active_rows}
 
 -- 1: the table is closed
@@ -50,10 +49,10 @@ not_listed r s = not (listed r.sites s)
 
 -- 4: the stage table has no step for the report
 abbrev pub NoStep : Row → ℕ → Report → Type 0
-NoStep r s p = step_of (part_at r s).stage p ≡ Step.Refused
+NoStep r s p = step_of (part_at r s).stage p ≡ None
 
 abbrev pub no_step : Row → ℕ → Report → Bool
-no_step r s p = is_refused (step_of (part_at r s).stage p)
+no_step r s p = is_none (step_of (part_at r s).stage p)
 
 -- 4: it is not active, or some site of it is not prepared
 abbrev pub NotPrepared : Row → Type 0

@@ -1,6 +1,6 @@
 -- What a call does that no check refuses, and the step that every call makes. RULES, Calls.
-use Rattle.std.specs.Prelude.{Bool, true, false, not, cond, ◌&&◌, List, [], ◌∷◌, map, ℕ, zero, suc, ◌+◌, ◌-◌, max, length, get_or, set, replicate}
-use Rattle.std.proofs.Math.Option.{Option, none, some}
+use Rattle.std.specs.Prelude.{Bool, true, false, not, cond, ◌&&◌, List, [], ◌∷◌, map, ℕ, zero, suc, ◌+◌, ◌-◌, max, length, get_or, set, replicate, Option, Some, None, unwrap_or, Ok, Err}
+use Rattle.refusals.specs.declared.Refusal.{Refusal}
 use Rattle.graph.specs.Lists.{keep}
 use Rattle.graph.specs.Acyclic.{acyclic}
 use Rattle.graph.specs.Reached.{reachedb}
@@ -15,13 +15,13 @@ use Rattle.method.specs.declared.Table.{Table}
 use Rattle.method.specs.declared.Answer.{Answer}
 use Rattle.method.specs.declared.Answered.{Answered}
 use Rattle.method.specs.Records.{number, ticket, part, no_part, row_of, free_row, table_of, part_at, committed, tickets_of, goesb, with_rows, with_row, with_high, with_last, with_part}
-use Rattle.method.specs.Stages.{first_stage, step_of, stage_to}
+use Rattle.method.specs.Stages.{first_stage, step_of}
 use Rattle.method.specs.Slots.{slot_of, row_of_number, free_slot, kept}
 use Rattle.method.specs.Conditions.{held_back}
-use Rattle.method.specs.Calls.{Call, checks, first_true}
+use Rattle.method.specs.Calls.{Call, CallAnswer, checks, first_true}
 use Rattle.method.specs.Calls.Call.{open_with, begin, report_ticket, report_prepared, abort, decide, forget, sweep}
 
-abbrev pub answered : Table → Answer → Answered
+abbrev pub answered : Table → CallAnswer → Answered Table
 answered t a = record { table = t; answer = a }
 
 -- open: the floors, and zeros for the sites that the table lacks
@@ -43,7 +43,7 @@ new_row t sites = row_of State.Active (number (t.last.0 + 1)) sites (number 0) (
 
 -- ticket and prepared: the site goes to the stage that the stage table gives, and holds the ticket
 unfoldable pub reported : Row → ℕ → Report → Ticket → Row
-reported r s p k = with_part r s (part (stage_to (part_at r s).stage (step_of (part_at r s).stage p)) (part_at r s).base k)
+reported r s p k = with_part r s (part (unwrap_or (step_of (part_at r s).stage p) (part_at r s).stage) (part_at r s).base k)
 
 -- abort, cycle, forget: the slot is free
 abbrev pub freed : Table → ℕ → Table
@@ -57,11 +57,11 @@ unfoldable pub raised : Row → List ℕ → List Ticket → List Ticket
 raised r [] hs = hs
 raised r (s ∷ ss) hs = raised r ss (set hs s (ticket (max (get_or hs s (ticket 0)).0 (part_at r s).ticket.0)))
 
-unfoldable pub decided : Table → ℕ → Bool → Answered
+unfoldable pub decided : Table → ℕ → Bool → Answered Table
 decided t n true = answered
     (with_high (with_row t (slot_of t n) (committed_row t (row_of_number t n))) (raised (row_of_number t n) (sites_of (row_of_number t n).sites) t.high))
-    (Answer.Commit (number n))
-decided t n false = answered (freed t n) (Answer.Cycle (number n))
+    (Ok (Answer.Commit (number n)))
+decided t n false = answered (freed t n) (Ok (Answer.Cycle (number n)))
 
 -- sweep: what no path of arrows reaches from a row that is held back goes
 unfoldable pub stays : Table → Row → Bool
@@ -76,22 +76,22 @@ swept_table t = with_rows t (map (swept_row t) t.rows)
 unfoldable pub swept_count : Table → ℕ
 swept_count t = length (keep (λ r. not (stays t r)) (kept t))
 
-unfoldable pub effect : Table → Call → Answered
-effect t (open_with first floors) = answered (opened first floors) Answer.Done
+unfoldable pub effect : Table → Call → Answered Table
+effect t (open_with first floors) = answered (opened first floors) (Ok Answer.Done)
 effect t (begin sites) =
-    answered (with_row (with_last t (number (t.last.0 + 1))) (free_slot t) (new_row t sites)) (Answer.Begun (number (t.last.0 + 1)))
-effect t (report_ticket n s k) = answered (with_row t (slot_of t n) (reported (row_of_number t n) s Report.Ticket (ticket k))) Answer.Done
+    answered (with_row (with_last t (number (t.last.0 + 1))) (free_slot t) (new_row t sites)) (Ok (Answer.Begun (number (t.last.0 + 1))))
+effect t (report_ticket n s k) = answered (with_row t (slot_of t n) (reported (row_of_number t n) s Report.Ticket (ticket k))) (Ok Answer.Done)
 effect t (report_prepared n s) =
-    answered (with_row t (slot_of t n) (reported (row_of_number t n) s Report.Prepared (part_at (row_of_number t n) s).ticket)) Answer.Done
-effect t (abort n) = answered (freed t n) Answer.Done
+    answered (with_row t (slot_of t n) (reported (row_of_number t n) s Report.Prepared (part_at (row_of_number t n) s).ticket)) (Ok Answer.Done)
+effect t (abort n) = answered (freed t n) (Ok Answer.Done)
 effect t (decide n) = decided t n (acyclic arrowb (tickets_of (row_of_number t n) ∷ map tickets_of (kept t)))
-effect t (forget n) = answered (freed t n) Answer.Done
-effect t sweep = answered (swept_table t) (Answer.Swept (swept_count t))
+effect t (forget n) = answered (freed t n) (Ok Answer.Done)
+effect t sweep = answered (swept_table t) (Ok (Answer.Swept (swept_count t)))
 
 -- a refused call changes nothing
-unfoldable pub act : Table → Call → Option ℕ → Answered
-act t c none = effect t c
-act t c (some k) = answered t (Answer.Refused k)
+unfoldable pub act : Table → Call → Option Refusal → Answered Table
+act t c None = effect t c
+act t c (Some k) = answered t (Err k)
 
-unfoldable pub step : Table → Call → Answered
+unfoldable pub step : Table → Call → Answered Table
 step t c = act t c (first_true (checks t c))

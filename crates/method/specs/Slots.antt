@@ -1,29 +1,25 @@
 -- Where a number stands in the table, which slot is free, which rows are active, and which are kept, also as a ticket table.
-use Rattle.std.specs.Prelude.{Bool, cond, ◌&&◌, List, [], ◌∷◌, map, ℕ, suc, eqb}
+use Rattle.std.specs.Prelude.{Bool, ◌&&◌, List, map, ℕ, eqb}
+use Rattle.std.specs.List.{position_or_len}
 use Rattle.graph.specs.Lists.{keep}
 use Rattle.orders.specs.Entries.{Entry, flat_of}
 use Rattle.method.specs.declared.Row.{Row}
 use Rattle.method.specs.declared.Table.{Table}
 use Rattle.method.specs.Records.{is_free, in_use, active, committed, row_at, tickets_of}
 
--- the place of the first that passes; past the last where none does
-unfoldable pub first_at : {A : Type 0} → (A → Bool) → List A → ℕ
-first_at f [] = 0
-first_at f (x ∷ xs) = cond (f x) 0 (suc (first_at f xs))
-
 abbrev pub has_number : ℕ → Row → Bool
 has_number n r = in_use r && eqb r.number.0 n
 
--- the slot of a number, and its row
+-- the slot of a number, and its row; past the last slot where none has it
 unfoldable pub slot_of : Table → ℕ → ℕ
-slot_of t n = first_at (has_number n) t.rows
+slot_of t n = position_or_len (has_number n) t.rows
 
 abbrev pub row_of_number : Table → ℕ → Row
 row_of_number t n = row_at t (slot_of t n)
 
--- the lowest free slot
+-- the lowest free slot; past the last one where none is
 unfoldable pub free_slot : Table → ℕ
-free_slot t = first_at (λ (r : Row). is_free r.state) t.rows
+free_slot t = position_or_len (λ (r : Row). is_free r.state) t.rows
 
 -- the committed transactions that the table keeps, and the active ones, by slot
 unfoldable pub kept : Table → List Row

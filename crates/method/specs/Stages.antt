@@ -1,29 +1,20 @@
 -- The stage table: from which stage which report leads to which. RULES, The table.
-use Rattle.std.specs.Prelude.{Bool, true, false, ℕ}
+use Rattle.std.specs.Prelude.{Bool, true, false, ℕ, Option, Some, None}
 use Rattle.method.specs.declared.Stage.{Stage}
 use Rattle.method.specs.declared.Report.{Report}
-use Rattle.method.specs.declared.Step.{Step}
 
 -- a site of a new transaction
 abbrev pub first_stage : Stage
 first_stage = Stage.Begun
 
-abbrev pub step_of : Stage → Report → Step
-step_of Stage.Begun Report.Ticket = Step.To Stage.Ticketed
-step_of Stage.Begun Report.Prepared = Step.Refused
-step_of Stage.Ticketed Report.Ticket = Step.Refused
-step_of Stage.Ticketed Report.Prepared = Step.To Stage.Prepared
-step_of Stage.Prepared Report.Ticket = Step.Refused
-step_of Stage.Prepared Report.Prepared = Step.Refused
-
-abbrev pub is_refused : Step → Bool
-is_refused (Step.To g) = false
-is_refused Step.Refused = true
-
--- the stage that a step leads to; a refused one leads nowhere
-abbrev pub stage_to : Stage → Step → Stage
-stage_to g (Step.To h) = h
-stage_to g Step.Refused = g
+-- the next stage, or none: the report is refused with 4
+abbrev pub step_of : Stage → Report → Option Stage
+step_of Stage.Begun Report.Ticket = Some Stage.Ticketed
+step_of Stage.Begun Report.Prepared = None
+step_of Stage.Ticketed Report.Ticket = None
+step_of Stage.Ticketed Report.Prepared = Some Stage.Prepared
+step_of Stage.Prepared Report.Ticket = None
+step_of Stage.Prepared Report.Prepared = None
 
 -- the places of a stage and of a report in the code's table
 abbrev pub stage_no : Stage → ℕ

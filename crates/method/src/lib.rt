@@ -4,6 +4,8 @@
 // How many transactions a table holds, and how many sites it can have. RULES, Limits.
 #![tactic(auto)]
 
+use refusals::Refusal;
+
 pub const SLOTS: usize = 32;
 
 pub const SITES: usize = 8;
@@ -23,17 +25,11 @@ pub enum Stage {
     Prepared,
 }
 
-// What a site reports, and what the stage table gives for it: the next stage, or refusal 4.
+// What a site reports.
 #[derive(Clone, Copy, PartialEq, Eq)]
 pub enum Report {
     Ticket,
     Prepared,
-}
-
-#[derive(Clone, Copy)]
-pub enum Step {
-    To(Stage),
-    Refused,
 }
 
 #[derive(Clone, Copy, PartialEq, Eq)]
@@ -70,7 +66,7 @@ pub struct Table {
     pub rows: [Row; SLOTS],
 }
 
-// What a call answers: each refusal by its number in RULES, Refusals.
+// What a call that nothing refuses answers.
 #[derive(Clone, Copy)]
 pub enum Answer {
     Done,
@@ -78,11 +74,12 @@ pub enum Answer {
     Commit(Number),
     Cycle(Number),
     Swept(u32),
-    Refused(u8),
 }
 
+// What a call leaves and says: the table, and the answer or the refusal. One type for the open table here and for the shut one of
+// crate `table`.
 #[derive(Clone, Copy)]
-pub struct Answered {
-    pub table: Table,
-    pub answer: Answer,
+pub struct Answered<T> {
+    pub table: T,
+    pub answer: Result<Answer, Refusal>,
 }

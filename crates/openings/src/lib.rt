@@ -1,13 +1,15 @@
 // The table before its opening, and the opening. RULES, Calls.
 #![tactic(auto)]
 
-ghost use Rattle.std.specs.Prelude.{◌≡◌, ◌<◌, ◌≤◌, length};
+ghost use Rattle.std.specs.Prelude.{◌≡◌, ◌<◌, ◌≤◌, length, Ok, OnOk};
 ghost use Rattle.method.specs.Records.{closed as closedTable};
 ghost use Rattle.method.specs.Conditions.{bad_opening};
+ghost use Rattle.method.specs.Calls.{checked, checks};
 ghost use Rattle.method.specs.Calls.Call.{open_with};
 ghost use Rattle.method.specs.Effects.{padded as paddedTickets, opened as openedTable, answered, step};
 
 use method::{Answer, Answered, Number, SITES, SLOTS, Table, Ticket};
+use refusals::Refusal;
 
 // The table to start from: it knows no site, and refuses all calls but open.
 pub fn closed() -> Table
@@ -42,9 +44,9 @@ fn padded(floors: &[u32]) -> [Ticket; SITES]
 }
 
 #[tactic(auto, unfolding(method::specs::Effects::opened))]
-fn opened(first: Number, floors: &[u32]) -> Answered
+fn opened(first: Number, floors: &[u32]) -> Answered<Table>
     requires { (length floors.now ≤ 8) × (0 < first.0) }
-    ensures answer { result ≡ answered (openedTable first.0 floors.now) Answer.Done }
+    ensures answer { result ≡ answered (openedTable first.0 floors.now) (Ok Answer.Done) }
 {
     Answered {
         table: Table {
@@ -53,18 +55,29 @@ fn opened(first: Number, floors: &[u32]) -> Answered
             high: padded(floors),
             rows: [records::free_row(); SLOTS],
         },
-        answer: Answer::Done,
+        answer: Ok(Answer::Done),
     }
 }
 
-pub fn open_with(t: Table, first: Number, floors: &[u32]) -> Answered
-    ensures answer { result ≡ step t (open_with first.0 floors.now) }
+// May the table be opened like this?
+fn may_open(t: &Table, first: Number, floors: &[u32]) -> Result<(), Refusal>
+    ensures answer { result ≡ checked (checks t.now (open_with first.0 floors.now)) tt }
+    ensures good { OnOk result ((length floors.now ≤ 8) × (0 < first.0)) }
 {
     if t.sites != 0 {
-        return records::refuse(t, 4);
+        return Err(Refusal::OutOfTurn);
     }
     if is_bad_opening(first, floors) {
-        return records::refuse(t, 1);
+        return Err(Refusal::NotOpen);
     }
-    opened(first, floors)
+    Ok(())
+}
+
+pub fn open_with(t: Table, first: Number, floors: &[u32]) -> Answered<Table>
+    ensures answer { result ≡ step t (open_with first.0 floors.now) }
+{
+    match may_open(&t, first, floors) {
+        Ok(()) => opened(first, floors),
+        Err(r) => records::refuse(t, r),
+    }
 }

@@ -1,41 +1,24 @@
-// The records of a table: a slot's state, a free row, a call refused, a slot freed. RULES, The table.
+// The records of a table: a slot's state, a free row, a call refused, a slot filled or freed. RULES, The table.
 #![tactic(auto)]
 
-ghost use Rattle.std.specs.Prelude.{◌≡◌, map};
+ghost use Rattle.std.specs.Prelude.{◌≡◌, map, Ok, Err};
 ghost use Rattle.method.specs.declared.Part.{Part as Parts};
 ghost use Rattle.method.specs.Records.{is_free, is_active, is_committed, free_row, with_row, tickets_of};
 ghost use Rattle.method.specs.Effects.{answered};
 
 use method::{Answer, Answered, Number, Part, Row, SITES, SLOTS, Stage, State, Table, Ticket};
-
-pub fn is_free(s: State) -> bool
-    ensures answer { result ≡ is_free s }
-{
-    match s {
-        State::Free => true,
-        State::Active => false,
-        State::Committed => false,
-    }
-}
+use refusals::Refusal;
 
 pub fn is_active(s: State) -> bool
     ensures answer { result ≡ is_active s }
 {
-    match s {
-        State::Free => false,
-        State::Active => true,
-        State::Committed => false,
-    }
+    s == State::Active
 }
 
 pub fn is_committed(s: State) -> bool
     ensures answer { result ≡ is_committed s }
 {
-    match s {
-        State::Free => false,
-        State::Active => false,
-        State::Committed => true,
-    }
+    s == State::Committed
 }
 
 // The tickets of parts that stand alone: behind a reference to a row a proof does not see how many there are.
@@ -57,46 +40,47 @@ pub fn tickets_of(r: &Row) -> [u32; SITES]
 pub fn free_row() -> Row
     ensures answer { result ≡ free_row }
 {
-    let p = Part {
+    let none = Part {
         stage: Stage::Begun,
         base: Ticket(0),
         ticket: Ticket(0),
     };
-    let parts = [p; SITES];
     Row {
         state: State::Free,
         number: Number(0),
         sites: 0,
         last: Number(0),
-        parts: parts,
+        parts: [none; SITES],
     }
 }
 
 // A refusal leaves the table as it is.
-pub fn refuse(t: Table, k: u8) -> Answered
-    ensures answer { result ≡ answered t (Answer.Refused k) }
+pub fn refuse(table: Table, r: Refusal) -> Answered<Table>
+    ensures answer { result ≡ answered table (Err r) }
 {
     Answered {
-        table: t,
-        answer: Answer::Refused(k),
+        table,
+        answer: Err(r),
     }
 }
 
-// The table with a slot freed. There are 32 slots: of another one nothing is freed.
-pub fn without(t: Table, slot: usize) -> Answered
-    ensures answer { result ≡ answered (with_row t slot free_row) Answer.Done }
+// The table with another row in a slot. There are 32 slots: of another one nothing changes.
+pub fn with_row(t: Table, slot: usize, row: Row, a: Answer) -> Answered<Table>
+    ensures answer { result ≡ answered (with_row t slot row) (Ok a) }
 {
-    let mut u = t;
-    if SLOTS <= slot {
-        return Answered {
-            table: u,
-            answer: Answer::Done,
-        };
+    let mut table = t;
+    if slot < SLOTS {
+        table.rows[slot] = row;
     }
-    let f = free_row();
-    u.rows[slot] = f;
     Answered {
-        table: u,
-        answer: Answer::Done,
+        table,
+        answer: Ok(a),
     }
+}
+
+// The table with a slot freed.
+pub fn without(t: Table, slot: usize, a: Answer) -> Answered<Table>
+    ensures answer { result ≡ answered (with_row t slot free_row) (Ok a) }
+{
+    with_row(t, slot, free_row(), a)
 }

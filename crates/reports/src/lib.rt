@@ -1,83 +1,81 @@
 // What the sites report: a ticket, and that they are prepared. RULES, The table; Calls.
 #![tactic(auto)]
 
-ghost use Rattle.std.specs.Prelude.{◌≡◌, ◌<◌};
-ghost use Rattle.method.specs.Records.{row_at, with_row, with_part};
+ghost use Rattle.std.specs.Prelude.{◌≡◌, ◌<◌, OnOk, IfOk};
+ghost use Rattle.method.specs.Records.{with_part};
 ghost use Rattle.method.specs.Calls.Call.{report_ticket, report_prepared};
-ghost use Rattle.method.specs.Effects.{answered, step};
+ghost use Rattle.method.specs.Calls.{checked, checks};
+ghost use Rattle.method.specs.Effects.{step};
+ghost use Rattle.reports.specs.Reported.{placed, ticketed, prepared};
 
-use method::{Answer, Answered, Number, Part, Report, Table, Ticket};
-use slots::Gate;
-use stages::Place;
+use method::{Answer, Answered, Number, Part, Report, Row, Stage, Table, Ticket};
+use refusals::Refusal;
 
-// The table with one site of one row set.
-fn with_part(t: Table, slot: usize, site: usize, p: Part) -> Answered
-    requires { (slot < 32) × (site < 8) }
-    ensures answer { result ≡ answered (with_row t slot (with_part (row_at t slot) site p)) Answer.Done }
+fn with_part(row: &Row, s: u8, p: Part) -> Row
+    requires { s < 8 }
+    ensures answer { result ≡ with_part row.now s p }
 {
-    let mut u = t;
-    let mut row = u.rows[slot];
-    row.parts[site] = p;
-    u.rows[slot] = row;
-    Answered {
-        table: u,
-        answer: Answer::Done,
-    }
+    let mut changed = *row;
+    changed.parts[s as usize] = p;
+    changed
 }
 
-pub fn report_ticket(t: Table, n: Number, s: u8, k: Ticket) -> Answered
+// What both reports ask first: the slot of the number, and the stage that the site comes to.
+fn place(t: &Table, n: Number, s: u8, p: Report) -> Result<(usize, Stage), Refusal>
+    ensures answer { result ≡ placed t.now n.0 s p }
+    ensures slot { IfOk result (λ x. x.0 < 32) }
+    ensures site { OnOk result (s < 8) }
+{
+    let slot = slots::enter(t, n)?;
+    let stage = stages::next_place(&t.rows[slot], s, p)?;
+    Ok((slot, stage))
+}
+
+// The slot, and its row with the ticket.
+fn ticketed(t: &Table, n: Number, s: u8, k: Ticket) -> Result<(usize, Row), Refusal>
+    ensures answer { result ≡ checked (checks t.now (report_ticket n.0 s k.0)) (ticketed t.now n.0 s k.0) }
+{
+    let (slot, stage) = place(t, n, s, Report::Ticket)?;
+    let row = &t.rows[slot];
+    let base = row.parts[s as usize].base;
+    if k <= base {
+        return Err(Refusal::NotAbove);
+    }
+    if rivals::is_taken(t, n, s as usize, k) {
+        return Err(Refusal::Taken);
+    }
+    let part = Part {
+        stage,
+        base,
+        ticket: k,
+    };
+    Ok((slot, with_part(row, s, part)))
+}
+
+// The slot, and its row with the site prepared.
+fn prepared(t: &Table, n: Number, s: u8) -> Result<(usize, Row), Refusal>
+    ensures answer { result ≡ checked (checks t.now (report_prepared n.0 s)) (prepared t.now n.0 s) }
+{
+    let (slot, stage) = place(t, n, s, Report::Prepared)?;
+    let row = &t.rows[slot];
+    let part = row.parts[s as usize];
+    Ok((slot, with_part(row, s, Part { stage, ..part })))
+}
+
+pub fn report_ticket(t: Table, n: Number, s: u8, k: Ticket) -> Answered<Table>
     ensures answer { result ≡ step t (report_ticket n.0 s k.0) }
 {
-    match slots::enter(t, n) {
-        Gate::Refused(x) => records::refuse(t, x),
-        Gate::At(slot) => {
-            let row = t.rows[slot];
-            match stages::next_place(row, s, Report::Ticket) {
-                Place::Refused(y) => records::refuse(t, y),
-                Place::To(g) => {
-                    let site = s as usize;
-                    let part = row.parts[site];
-                    let base = part.base;
-                    if k.0 <= base.0 {
-                        return records::refuse(t, 5);
-                    }
-                    if rivals::is_taken(t, n, site, k) {
-                        return records::refuse(t, 6);
-                    }
-                    let p = Part {
-                        stage: g,
-                        base: base,
-                        ticket: k,
-                    };
-                    with_part(t, slot, site, p)
-                }
-            }
-        }
+    match ticketed(&t, n, s, k) {
+        Ok((slot, row)) => records::with_row(t, slot, row, Answer::Done),
+        Err(r) => records::refuse(t, r),
     }
 }
 
-pub fn report_prepared(t: Table, n: Number, s: u8) -> Answered
+pub fn report_prepared(t: Table, n: Number, s: u8) -> Answered<Table>
     ensures answer { result ≡ step t (report_prepared n.0 s) }
 {
-    match slots::enter(t, n) {
-        Gate::Refused(x) => records::refuse(t, x),
-        Gate::At(slot) => {
-            let row = t.rows[slot];
-            match stages::next_place(row, s, Report::Prepared) {
-                Place::Refused(y) => records::refuse(t, y),
-                Place::To(g) => {
-                    let site = s as usize;
-                    let part = row.parts[site];
-                    let base = part.base;
-                    let ticket = part.ticket;
-                    let p = Part {
-                        stage: g,
-                        base: base,
-                        ticket: ticket,
-                    };
-                    with_part(t, slot, site, p)
-                }
-            }
-        }
+    match prepared(&t, n, s) {
+        Ok((slot, row)) => records::with_row(t, slot, row, Answer::Done),
+        Err(r) => records::refuse(t, r),
     }
 }

@@ -21,8 +21,8 @@ fn holds_other(r: &Row, n: Number, s: usize, k: Ticket) -> bool
 }
 
 // Does another transaction in the table hold the ticket at the site?
-pub fn is_taken(t: Table, n: Number, s: usize, k: Ticket) -> bool
-    ensures answer { result ≡ taken t n.0 s k.0 }
+pub fn is_taken(t: &Table, n: Number, s: usize, k: Ticket) -> bool
+    ensures answer { result ≡ taken t.now n.0 s k.0 }
 {
     t.rows.iter().any(|r| holds_other(r, n, s, k))
 }

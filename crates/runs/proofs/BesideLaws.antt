@@ -5,6 +5,8 @@ use mathlib.Core.Logic.{◌↔◌, ◌≢◌, inl, inr}
 use Prim.Native.Nat.{ℕ, ◌≤◌}
 use native.Mathlib.Omega.{arith}
 use native.Mathlib.Decide.{ℕ_discrete}
+use Rattle.method.specs.Calls.{CallAnswer}
+use Rattle.std.specs.Prelude.{Ok, Err}
 use Rattle.method.specs.declared.Row.{Row}
 use Rattle.method.specs.declared.Table.{Table}
 use Rattle.method.specs.declared.Answer.{Answer}
@@ -45,7 +47,7 @@ module _ (r : Run) (c : Call) (v : (i j : ℕ) → i ≢ j → Told r (row_at (a
   abbrev u : Table
   u = (step (after r) c).table
 
-  abbrev a : Answer
+  abbrev a : CallAnswer
   a = answer_to r c
 
   -- a pair that the step leaves alone
@@ -74,7 +76,7 @@ module _ (r : Run) (c : Call) (v : (i j : ℕ) → i ≢ j → Told r (row_at (a
       quiet (λ n y. never (cc)) i _ w.changed (λ y. not_committed w.active y) (same_active (λ n y. never (cc)) i _ w.changed w.active refl) j k d
   beside_step (commits m e f st w) j k d = both w.changed (Told (call r c))
       (λ y z cm ay. (
-        λ x. inl ((e ∙ ap {B = Call} decide (sym w.named), f ∙ ap {B = Answer} (λ (n : ℕ). Answer.Commit (number n)) (sym w.named)), (y, ay, refl)),
+        λ x. inl ((e ∙ ap {B = Call} decide (sym w.named), f ∙ ap {B = CallAnswer} (λ (n : ℕ). Ok (Answer.Commit (number n))) (sym w.named)), (y, ay, refl)),
         λ x. ((invariant_run r).sound.rows y).counted,
       ))
       (λ y z cm ay. never (cc))

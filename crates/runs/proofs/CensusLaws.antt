@@ -5,6 +5,9 @@ use mathlib.Core.Logic.{◌⊎◌, inl, inr}
 use Prim.Native.Nat.{ℕ, ◌+◌, ◌≤◌}
 use native.Mathlib.Omega.{arith}
 use Rattle.orders.specs.Entries.{Entry}
+use Rattle.refusals.specs.declared.Refusal.{Refusal}
+use Rattle.method.specs.Calls.{CallAnswer}
+use Rattle.std.specs.Prelude.{Ok, Err}
 use Rattle.method.specs.declared.Number.{Number}
 use Rattle.method.specs.declared.Row.{Row}
 use Rattle.method.specs.declared.Table.{Table}
@@ -52,7 +55,7 @@ module _ (t u : Table) (i : ℕ) (q : Row) (ch : Changed (row_at t) i q (row_at 
 
 -- one step
 module _ (t : Table) (es : List Entry) (v : Invariant t es) (c : Call) where
-  abbrev a : Answer
+  abbrev a : CallAnswer
   a = (step t c).answer
 
   abbrev u : Table
@@ -87,7 +90,7 @@ module _ (t : Table) (es : List Entry) (v : Invariant t es) (c : Call) where
   known_back (opens first floors e f st cl b p) n (j, g, q) = absurd (g (ap (λ (z : Table). (row_at z j).state) p ∙ (free_after_open first floors j).free))
   known_back (begins sites i e f st nc fr ch l h s) n x = elim (known_old t u i _ ch n x) [
     | inl y ↦ inl y
-    | inr y ↦ inr (sites, (e, f ∙ ap {B = Answer} (λ (k : ℕ). Answer.Begun (number k)) y))
+    | inr y ↦ inr (sites, (e, f ∙ ap {B = CallAnswer} (λ (k : ℕ). Ok (Answer.Begun (number k))) y))
   ]
   known_back (reports p m s k i e f st w sm) n x = inl (known_before t u i _ w.changed refl (not_free w.active) n x)
   known_back (commits m e f st w) n x = inl (known_before t u _ _ w.changed refl (not_free w.active) n x)
@@ -118,7 +121,7 @@ module _ (t : Table) (es : List Entry) (v : Invariant t es) (c : Call) where
   last_grows (commits m e f st w) = omega (arith, w.last)
   last_grows (clears q w sm) = omega (arith, sm.last)
 
-  pub refused_of_closed : Change t c a u → Closed u → (k : ℕ) × (a ≡ Answer.Refused k) × Closed t
+  pub refused_of_closed : Change t c a u → Closed u → (k : Refusal) × (a ≡ Err k) × Closed t
   unfolding opened
   refused_of_closed (refuses k e st p) cl = (k, e, rw p at cl)
   refused_of_closed (opens first floors e f st x b p) cl = absurd (b (inl (ap (λ (z : Table). z.sites) (sym p) ∙ cl)))

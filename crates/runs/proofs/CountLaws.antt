@@ -13,6 +13,8 @@ use lib.ListN.{length, get_or}
 use Rattle.graph.specs.Lists.{◌∈◌}
 use Rattle.orders.specs.Arrow.{ticket_at}
 use Rattle.orders.specs.Entries.{Entry}
+use Rattle.method.specs.Calls.{CallAnswer}
+use Rattle.std.specs.Prelude.{Ok, Err}
 use Rattle.method.specs.declared.Ticket.{Ticket}
 use Rattle.method.specs.declared.Row.{Row}
 use Rattle.method.specs.declared.Table.{Table}
@@ -60,7 +62,7 @@ module _ (r : Run) (c : Call) (v : Counts r) where
   abbrev u : Table
   u = (step (after r) c).table
 
-  abbrev a : Answer
+  abbrev a : CallAnswer
   a = answer_to r c
 
   -- a step that opens nothing and leaves highest tickets, last number and history as they were
@@ -93,7 +95,7 @@ module _ (r : Run) (c : Call) (v : Counts r) where
         | no l ↦ inr (entry_of q, here refl, omega arith)
       ]
 
-  opening : (f : ℕ) (fs : List ℕ) → c ≡ open_with f fs → a ≡ Answer.Done → Closed t → ¬ BadOpening f fs → u ≡ opened f fs
+  opening : (f : ℕ) (fs : List ℕ) → c ≡ open_with f fs → a ≡ Ok Answer.Done → Closed t → ¬ BadOpening f fs → u ≡ opened f fs
       → (first : ℕ) (floors : List ℕ) → Happened (Opens first floors) (call r c) → (s : ℕ) → s < length floors → Greatest (high_at u s) (get_or floors s 0) (noted u a (history r)) s
   unfolding Happened opened
   opening f fs e g cl b p first floors (inr x) s l = absurd ((v.shut cl).1 first floors x)
@@ -105,7 +107,7 @@ module _ (r : Run) (c : Call) (v : Counts r) where
       ∙ ap (λ (y : Ticket). y.0) (floor_at 8 floors s l (omega (arith, few_floors f fs b, ap length z))) in
       rw (g, ((invariant_run r).shut cl).0) (record { least = omega (arith, k); all = λ y m. absurd (Memᴰ.not-nil m); one = inl k })
 
-  committing : (m : ℕ) → c ≡ decide m → a ≡ Answer.Commit (number m) → Seals t c a u m
+  committing : (m : ℕ) → c ≡ decide m → a ≡ Ok (Answer.Commit (number m)) → Seals t c a u m
       → (first : ℕ) (floors : List ℕ) → Happened (Opens first floors) (call r c) → (s : ℕ) → s < length floors → Greatest (high_at u s) (get_or floors s 0) (noted u a (history r)) s
   unfolding Happened
   committing m e f w first floors (inl x) s l = never (cc)

@@ -5,6 +5,7 @@ use mathlib.Core.List.{List}
 use mathlib.Core.Logic.{◌↔◌, inl, inr}
 use mathlib.Core.Option.{Option, none, some}
 use Prim.Native.Nat.{ℕ}
+use Rattle.method.specs.Calls.{CallAnswer}
 use Rattle.method.specs.declared.Report.{Report}
 use Rattle.method.specs.declared.Table.{Table}
 use Rattle.method.specs.declared.Answer.{Answer}
@@ -42,7 +43,7 @@ same_told p x n m s y k j e =
     let z : some (told p n s) ≡ some (told x m y) = sym (report_in_lem p n s k) ∙ ap report_in e ∙ report_in_lem x m y j in
     cc
 
-module _ (t : Table) (c : Call) (a : Answer) where
+module _ (t : Table) (c : Call) (a : CallAnswer) where
   -- a call that makes no report
   module _ (none_in : report_in c ≡ none) where
     no_report : (p : Report) (n s : ℕ) → ¬ Reports p n s t c a
@@ -64,12 +65,12 @@ module _ (t : Table) (c : Call) (a : Answer) where
   pub report_of_ticket : (n s k : ℕ) → TakesTicket n s k t c a → Reports Report.Ticket n s t c a
   report_of_ticket n s k x = (k, x.0, x.1)
 
-pub happened_map : {P Q : Table → Call → Answer → Type 0} → ((t : Table) (c : Call) (a : Answer) → P t c a → Q t c a) → (r : Run) → Happened P r → Happened Q r
+pub happened_map : {P Q : Table → Call → CallAnswer → Type 0} → ((t : Table) (c : Call) (a : CallAnswer) → P t c a → Q t c a) → (r : Run) → Happened P r → Happened Q r
 unfolding Happened
 happened_map f start x = x
 happened_map f (call r c) (inl x) = inl (f (after r) c (answer_to r c) x)
 happened_map f (call r c) (inr x) = inr (happened_map f r x)
 
-pub later_iff : (r : Run) (c : Call) {A : Type 0} (P : Table → Call → Answer → Type 0) → ¬ P (after r) c (answer_to r c) → A ↔ Happened P r → A ↔ Happened P (call r c)
+pub later_iff : (r : Run) (c : Call) {A : Type 0} (P : Table → Call → CallAnswer → Type 0) → ¬ P (after r) c (answer_to r c) → A ↔ Happened P r → A ↔ Happened P (call r c)
 unfolding Happened
 later_iff r c P n h = (λ x. inr (h.0 x), λ y. elim y [ inl z ↦ absurd (n z) | inr z ↦ h.1 z ])

@@ -16,6 +16,8 @@ use Rattle.graph.proofs.PathLaws.{cycle_of_weaker}
 use Rattle.graph.proofs.MapLaws.{mapped_cycle_iff}
 use Rattle.orders.specs.Arrow.{Arrow, arrowb}
 use Rattle.orders.proofs.ArrowLaws.{arrowb→arrow}
+use Rattle.std.specs.Prelude.{Ok, Err}
+use Rattle.refusals.specs.declared.Refusal.{Refusal}
 use Rattle.method.specs.declared.Row.{Row}
 use Rattle.method.specs.declared.Table.{Table}
 use Rattle.method.specs.declared.Answer.{Answer}
@@ -47,7 +49,7 @@ module _ (t : Table) (n : ℕ) (ok : NoneHolds (rules t (decide n))) where
   cycle_of_test : test ≡ false → Cycle Goes (q ∷ kept t)
   cycle_of_test e = (mapped_cycle_iff tickets_of (q ∷ kept t) Arrow).1 (cycle_of_weaker arrowb→arrow (cycle_of_not_acyclic arrowb (map tickets_of (q ∷ kept t)) e))
 
-  pub data Decision (a : Answered) : Type 0 where
+  pub data Decision (a : Answered Table) : Type 0 where
     commits : ¬ Cycle Goes (q ∷ kept t) → a ≡ decided t n true → Decision a
     cycles : Cycle Goes (q ∷ kept t) → a ≡ decided t n false → Decision a
 
@@ -60,17 +62,17 @@ module _ (t : Table) (n : ℕ) (ok : NoneHolds (rules t (decide n))) where
 
 -- a committed one that the table knows is forgotten exactly if no kept one has an arrow to it and no older active one holds it back
 module _ (t : Table) (n : ℕ) (nc : ¬ Closed t) (nu : ¬ Unknown t n) (cm : IsCommitted (row_of_number t n)) where
-  pub forgets_exactly : (step t (forget n) ≡ answered (freed t n) Answer.Done) ↔ ((¬ HasPred t (row_of_number t n)) × (¬ HeldBack t (row_of_number t n)))
+  pub forgets_exactly : (step t (forget n) ≡ answered (freed t n) (Ok Answer.Done)) ↔ ((¬ HasPred t (row_of_number t n)) × (¬ HeldBack t (row_of_number t n)))
   unfolding rules effect
   forgets_exactly = (
     λ e. ((λ p. stopped e (inl p)), (λ p. stopped e (inr p))),
     λ f. done_exactly t (forget n) (nc, (nu, ((λ k. k cm), ((λ m. elim m [ inl p ↦ f.0 p | inr p ↦ f.1 p ]), tt)))),
   )
     where
-      stopped : step t (forget n) ≡ answered (freed t n) Answer.Done → ¬ (HasPred t (row_of_number t n) ⊎ HeldBack t (row_of_number t n))
+      stopped : step t (forget n) ≡ answered (freed t n) (Ok Answer.Done) → ¬ (HasPred t (row_of_number t n) ⊎ HeldBack t (row_of_number t n))
       stopped e m =
-          let r : (step t (forget n)).answer ≡ Answer.Refused 9 = (refused_exactly t (forget n) 9).1 (inr (nc, inr (nu, inr ((λ k. k cm), inl (m, refl))))) in
-          let s = ap (λ (a : Answered). a.answer) e in
+          let r : (step t (forget n)).answer ≡ Err Refusal.TooEarly = (refused_exactly t (forget n) Refusal.TooEarly).1 (inr (nc, inr (nu, inr ((λ k. k cm), inl (m, refl))))) in
+          let s = ap (λ (a : Answered Table). a.answer) e in
           never (cc)
 
 -- the count of a sweep is the slots that it frees

@@ -24,6 +24,7 @@ use Rattle.graph.proofs.MapLaws.{mapped_cycle_iff}
 use Rattle.graph.proofs.ReachedLaws.{reached_of_next}
 use Rattle.orders.specs.Entries.{Entry, EntryArrow}
 use Rattle.orders.proofs.OrderLaws.{order_exists_iff_no_cycle}
+use Rattle.std.specs.Prelude.{Ok, Err}
 use Rattle.method.specs.declared.Row.{Row}
 use Rattle.method.specs.declared.Table.{Table}
 use Rattle.method.specs.declared.Answer.{Answer}
@@ -131,9 +132,9 @@ module _ (t : Table) (es : List Entry) (v : Invariant t es) (nc : ¬ Closed t) w
     free : ¬ HeldBack t (row_at t i)
     free = free_of_hold t i l.is l.goes
 
-    forgets : step t (forget n) ≡ answered u Answer.Done
+    forgets : step t (forget n) ≡ answered u (Ok Answer.Done)
     forgets = (forgets_exactly t n nc known (rw row_of_number_lem l.is)).1 (rw row_of_number_lem l.alone, rw row_of_number_lem free)
-        ∙ ap (λ (j : ℕ). answered (with_row t j free_row) Answer.Done) (slot_is i used)
+        ∙ ap (λ (j : ℕ). answered (with_row t j free_row) (Ok Answer.Done)) (slot_is i used)
 
     pub invariant_u : Invariant u es
     invariant_u = subst (λ (j : ℕ). Invariant (with_row t j free_row) es) (slot_is i used)
@@ -267,8 +268,8 @@ forget_all_from (suc k) t es v nc e = go (λ u w nu f. forget_all_from k u es w 
         let (ns, r) = again (with_row t i free_row) (invariant_u t es v nc i l) nc (omega (arith, fewer t es v nc i l)) in (
           num (row_at t i) ∷ ns,
           (
-            ap (λ (y : Answered). y.answer) f,
-            subst (λ (y : Table). ForgetAll y ns (swept_table t)) (sym (ap (λ (y : Answered). y.table) f)) (subst (ForgetAll (with_row t i free_row) ns) (same_sweep t es v nc i l) r),
+            ap (λ (y : Answered Table). y.answer) f,
+            subst (λ (y : Table). ForgetAll y ns (swept_table t)) (sym (ap (λ (y : Answered Table). y.table) f)) (subst (ForgetAll (with_row t i free_row) ns) (same_sweep t es v nc i l) r),
           ),
         )
 

@@ -4,6 +4,7 @@ use mathlib.Core.Path.{◌≡◌, refl, ap}
 use mathlib.Core.Logic.{◌↔◌, ◌⊎◌, inl, inr}
 use Prim.Native.Nat.{ℕ}
 use native.Mathlib.Decide.{ℕ_discrete}
+use Rattle.std.specs.Prelude.{Ok, Err}
 use Rattle.method.specs.declared.State.{State}
 use Rattle.method.specs.declared.Row.{Row}
 use Rattle.method.specs.declared.Table.{Table}
@@ -31,11 +32,11 @@ use Rattle.runs.proofs.ExactlyLaws.{forgets_exactly}
 
 -- a forget is done exactly under its condition
 module _ (t : Table) (n : ℕ) (nc : ¬ Closed t) (nu : ¬ Unknown t n) (cm : IsCommitted (row_of_number t n)) where
-  pub forget_done_iff : ((step t (forget n)).answer ≡ Answer.Done) ↔ ((¬ HasPred t (row_of_number t n)) × (¬ HeldBack t (row_of_number t n)))
+  pub forget_done_iff : ((step t (forget n)).answer ≡ Ok Answer.Done) ↔ ((¬ HasPred t (row_of_number t n)) × (¬ HeldBack t (row_of_number t n)))
   unfolding rules
-  forget_done_iff = (λ e. forth e (step_goes t (forget n)), λ f. ap (λ (a : Answered). a.answer) ((forgets_exactly t n nc nu cm).1 f))
+  forget_done_iff = (λ e. forth e (step_goes t (forget n)), λ f. ap (λ (a : Answered Table). a.answer) ((forgets_exactly t n nc nu cm).1 f))
     where
-      forth : (step t (forget n)).answer ≡ Answer.Done → Steps t (forget n) (step t (forget n)) → (¬ HasPred t (row_of_number t n)) × (¬ HeldBack t (row_of_number t n))
+      forth : (step t (forget n)).answer ≡ Ok Answer.Done → Steps t (forget n) (step t (forget n)) → (¬ HasPred t (row_of_number t n)) × (¬ HeldBack t (row_of_number t n))
       forth e (stopped k f p q) = never (cc)
       forth e (passed (a, (b, (c, (d, x)))) p) = (λ h. d (inl h), λ h. d (inr h))
 
@@ -76,11 +77,11 @@ module _ (r : Run) (n : ℕ) (k : Kept (after r) n) where
       go (j, f, e) State.Active p = inl (j, p, e)
       go (j, f, e) State.Committed p = inr (inl (rw e at ((rows_follow_run r j f).committed.0 p)))
 
-  pub forgotten_iff_paper : (answer_to r (forget n) ≡ Answer.Done) ↔ ((¬ HasPred t q) × ((m : ℕ) → Happened (CommitsBeside n m) r → Happened (Commits m) r ⊎ Over r m))
+  pub forgotten_iff_paper : (answer_to r (forget n) ≡ Ok Answer.Done) ↔ ((¬ HasPred t q) × ((m : ℕ) → Happened (CommitsBeside n m) r → Happened (Commits m) r ⊎ Over r m))
   forgotten_iff_paper = (
     λ e. let f = iff.0 e in (f.0, λ m x. elim (settled m x) [ inl y ↦ absurd (f.1 (held_iff.1 (m, x, y))) | inr y ↦ y ]),
     λ f. iff.1 (f.0, λ h. let (m, x, y) = held_iff.0 h in let (b, c, o) = (active_iff_begun r m).0 y in elim (f.1 m x) [ inl z ↦ c z | inr z ↦ o z ]),
   )
     where
-      iff : (answer_to r (forget n) ≡ Answer.Done) ↔ ((¬ HasPred t q) × (¬ HeldBack t q))
+      iff : (answer_to r (forget n) ≡ Ok Answer.Done) ↔ ((¬ HasPred t q) × (¬ HeldBack t q))
       iff = forget_done_iff t n open_of_kept known committed_of_kept

@@ -7,6 +7,8 @@ use native.Mathlib.Omega.{arith}
 use native.Mathlib.Decide.{ℕ_discrete}
 use Rattle.graph.proofs.TestLaws.{true_or_false, true_not_false}
 use Rattle.orders.specs.Entries.{Entry}
+use Rattle.method.specs.Calls.{CallAnswer}
+use Rattle.std.specs.Prelude.{Ok, Err}
 use Rattle.method.specs.declared.Number.{Number}
 use Rattle.method.specs.declared.Row.{Row}
 use Rattle.method.specs.declared.Table.{Table}
@@ -18,7 +20,7 @@ use Rattle.method.specs.Calls.{Call, rules}
 use Rattle.method.specs.Calls.Call.{begin}
 use Rattle.method.specs.Effects.{new_row, reported, committed_row, effect, step}
 use Rattle.method.proofs.RecordLaws.{never, free_iff}
-use Rattle.method.proofs.SlotLaws.{first_lowest}
+use Rattle.std.proofs.lemmas.List.Sums.{fails_before_first}
 use Rattle.method.proofs.CallLaws.{Steps, Steps.stopped, Steps.passed, step_goes}
 use Rattle.runs.specs.Run.{Run, after, answer_to, Begins}
 use Rattle.runs.specs.History.{history}
@@ -47,7 +49,7 @@ module _ (t : Table) (es : List Entry) (v : Invariant t es) where
       record {
         within = omega (arith, h, v.shape.slots);
         free = f;
-        below = λ j l g. true_not_false ((free_iff (row_at t j).state).1 g) (first_lowest (λ (r : Row). is_free r.state) t.rows past_end j l);
+        below = λ j l g. true_not_false ((free_iff (row_at t j).state).1 g) (fails_before_first (λ (r : Row). is_free r.state) t.rows j past_end l);
       }
 
   begin_takes : (sites j : ℕ) → ¬ Full t → ¬ IsFree (row_at (effect t (begin sites)).table j) → IsFree (row_at t j) → Lowest t j
@@ -57,7 +59,7 @@ module _ (t : Table) (es : List Entry) (v : Invariant t es) where
     | inr e ↦ absurd (u (rw e.1 f))
   ]
 
-  takes_lowest : (sites j : ℕ) (n : Number) → (step t (begin sites)).answer ≡ Answer.Begun n → ¬ IsFree (row_at (step t (begin sites)).table j) → IsFree (row_at t j) → Lowest t j
+  takes_lowest : (sites j : ℕ) (n : Number) → (step t (begin sites)).answer ≡ Ok (Answer.Begun n) → ¬ IsFree (row_at (step t (begin sites)).table j) → IsFree (row_at t j) → Lowest t j
   unfolding rules
   takes_lowest sites j n e u f = go (step_goes t (begin sites))
     where
@@ -66,7 +68,7 @@ module _ (t : Table) (es : List Entry) (v : Invariant t es) where
       go (passed (a, (b, (c, (d, x)))) p) = begin_takes sites j d (rw p at u) f
 
 -- what stands in a slot that was taken is still the same; what stands in one that was free was begun
-module _ (t : Table) (c : Call) (a : Answer) (u : Table) (j : ℕ) (used : ¬ IsFree (row_at u j)) where
+module _ (t : Table) (c : Call) (a : CallAnswer) (u : Table) (j : ℕ) (used : ¬ IsFree (row_at u j)) where
   same_number : Change t c a u → ¬ IsFree (row_at t j) → num (row_at u j) ≡ num (row_at t j)
   unfolding reported committed_row
   same_number (refuses k e st p) f = rw p

@@ -5,6 +5,8 @@ use mathlib.Core.Logic.{◌⊎◌, inl, inr}
 use Prim.Native.Nat.{ℕ, ◌<◌, ◌≤◌}
 use native.Mathlib.Omega.{arith}
 use native.Mathlib.Decide.{ℕ_discrete}
+use Rattle.method.specs.Calls.{CallAnswer}
+use Rattle.std.specs.Prelude.{Ok, Err}
 use Rattle.method.specs.declared.Number.{Number}
 use Rattle.method.specs.declared.Table.{Table}
 use Rattle.method.specs.declared.Answer.{Answer}
@@ -123,17 +125,17 @@ census start = census_start
 census (call r c) = census_call r c (census r)
 
 -- whether a number was begun can be told
-begins_or_not : (t : Table) (c : Call) (a : Answer) (n : ℕ) → ((sites : ℕ) × Begins n sites t c a) ⊎ (¬ ((sites : ℕ) × Begins n sites t c a))
+begins_or_not : (t : Table) (c : Call) (a : CallAnswer) (n : ℕ) → ((sites : ℕ) × Begins n sites t c a) ⊎ (¬ ((sites : ℕ) × Begins n sites t c a))
 begins_or_not t (open_with f fs) a n = inr (λ b. let e = b.1.0 in never (cc))
-begins_or_not t (begin x) Answer.Done n = inr (λ b. let e = b.1.1 in never (cc))
-begins_or_not t (begin x) (Answer.Begun m) n = elim (ℕ_discrete m.0 n) [
-  | yes e ↦ inl (x, (refl, λ z. Answer.Begun (record { 0 = e z })))
+begins_or_not t (begin x) (Ok Answer.Done) n = inr (λ b. let e = b.1.1 in never (cc))
+begins_or_not t (begin x) (Ok (Answer.Begun m)) n = elim (ℕ_discrete m.0 n) [
+  | yes e ↦ inl (x, (refl, λ z. Ok (Answer.Begun (record { 0 = e z }))))
   | no e ↦ inr (λ b. e (let f = b.1.1 in let g : m ≡ number n = cc in ap (λ (k : Number). k.0) g))
 ]
-begins_or_not t (begin x) (Answer.Commit m) n = inr (λ b. let e = b.1.1 in never (cc))
-begins_or_not t (begin x) (Answer.Cycle m) n = inr (λ b. let e = b.1.1 in never (cc))
-begins_or_not t (begin x) (Answer.Swept m) n = inr (λ b. let e = b.1.1 in never (cc))
-begins_or_not t (begin x) (Answer.Refused m) n = inr (λ b. let e = b.1.1 in never (cc))
+begins_or_not t (begin x) (Ok (Answer.Commit m)) n = inr (λ b. let e = b.1.1 in never (cc))
+begins_or_not t (begin x) (Ok (Answer.Cycle m)) n = inr (λ b. let e = b.1.1 in never (cc))
+begins_or_not t (begin x) (Ok (Answer.Swept m)) n = inr (λ b. let e = b.1.1 in never (cc))
+begins_or_not t (begin x) (Err m) n = inr (λ b. let e = b.1.1 in never (cc))
 begins_or_not t (report_ticket m s k) a n = inr (λ b. let e = b.1.0 in never (cc))
 begins_or_not t (report_prepared m s) a n = inr (λ b. let e = b.1.0 in never (cc))
 begins_or_not t (abort m) a n = inr (λ b. let e = b.1.0 in never (cc))

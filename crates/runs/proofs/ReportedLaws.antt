@@ -9,6 +9,7 @@ use Prim.Native.Nat.{ℕ, ◌<◌}
 use Rattle.graph.specs.Lists.{◌∈◌}
 use Rattle.orders.specs.Arrow.{ticket_at}
 use Rattle.orders.specs.Entries.{Entry}
+use Rattle.method.specs.Calls.{CallAnswer}
 use Rattle.method.specs.declared.Report.{Report}
 use Rattle.method.specs.declared.Table.{Table}
 use Rattle.method.specs.declared.Answer.{Answer}
@@ -28,7 +29,7 @@ use Rattle.runs.proofs.RowsFollowLaws.{active_of_report, rows_follow_run}
 use Rattle.runs.proofs.StepLaws.{Change, Change.refuses, Change.opens, Change.begins, Change.reports, Change.commits, Change.clears}
 
 -- an answer is a commit, which notes its row, or notes nothing
-module _ (t : Table) (c : Call) (a : Answer) (u : Table) (es : List Entry) where
+module _ (t : Table) (c : Call) (a : CallAnswer) (u : Table) (es : List Entry) where
   pub data Notes : Type 0 where
     one : (n : ℕ) → Commits n t c a → IsActive (row_of_number t n) → num (row_of_number t n) ≡ n → noted u a es ≡ entry_of (row_of_number t n) ∷ es → Notes
     none : ((n : ℕ) → ¬ Commits n t c a) → noted u a es ≡ es → Notes

@@ -8,6 +8,8 @@ use Rattle.graph.proofs.TestLaws.{true_not_false}
 use Rattle.graph.proofs.MemberLaws.{member_or_not}
 use Rattle.sites.specs.Sites.{sites_of}
 use Rattle.sites.proofs.SitesLaws.{rising_sites, lt_of_member}
+use Rattle.method.specs.Calls.{CallAnswer}
+use Rattle.std.specs.Prelude.{Ok, Err}
 use Rattle.method.specs.declared.Report.{Report}
 use Rattle.method.specs.declared.Part.{Part}
 use Rattle.method.specs.declared.Row.{Row}
@@ -28,7 +30,7 @@ use Rattle.runs.proofs.EventLaws.{report_of_ticket, happened_map, later_iff}
 
 -- what is told of a row is unchanged by a step that tells nothing of its number
 module _ (r : Run) (c : Call) where
-  abbrev a : Answer
+  abbrev a : CallAnswer
   a = answer_to r c
 
   pub record Silent (n : ℕ) : Type 0 where
@@ -46,7 +48,7 @@ module _ (r : Run) (c : Call) where
   }
 
   -- begun: nothing was told of the number before
-  pub row_begun : (sites : ℕ) → c ≡ begin sites → a ≡ Answer.Begun (number ((after r).last.0 + 1)) → ((n : ℕ) → BegunIn r n → n ≤ (after r).last.0)
+  pub row_begun : (sites : ℕ) → c ≡ begin sites → a ≡ Ok (Answer.Begun (number ((after r).last.0 + 1))) → ((n : ℕ) → BegunIn r n → n ≤ (after r).last.0)
       → ((p : Report) (n s : ℕ) → Happened (Reports p n s) r → BegunIn r n) → ((n : ℕ) → Happened (Commits n) r → BegunIn r n)
       → RowFollows (call r c) (new_row (after r) sites)
   unfolding Happened new_row

@@ -6,16 +6,17 @@ use Prim.Native.Nat.{ℕ, ◌<◌}
 use native.Mathlib.Decide.{ℕ_discrete}
 use lib.ListN.{length}
 use Rattle.graph.proofs.TestLaws.{true_not_false, or_of_left, or_of_right, either_of_or}
+use Rattle.method.specs.Calls.{CallAnswer}
+use Rattle.std.specs.Prelude.{Some, unwrap_or, Ok, Err}
 use Rattle.method.specs.declared.Ticket.{Ticket}
 use Rattle.method.specs.declared.Stage.{Stage}
 use Rattle.method.specs.declared.Report.{Report}
-use Rattle.method.specs.declared.Step.{Step}
 use Rattle.method.specs.declared.Part.{Part}
 use Rattle.method.specs.declared.Row.{Row}
 use Rattle.method.specs.declared.Table.{Table}
 use Rattle.method.specs.declared.Answer.{Answer}
 use Rattle.method.specs.Records.{number, no_part, part_at, tickets_of}
-use Rattle.method.specs.Stages.{step_of, stage_to, given}
+use Rattle.method.specs.Stages.{step_of, given}
 use Rattle.method.specs.Calls.{Call}
 use Rattle.method.specs.Calls.Call.{report_ticket, decide}
 use Rattle.method.specs.Effects.{reported, committed_row}
@@ -29,7 +30,7 @@ use Rattle.runs.proofs.EventLaws.{Told, same_told, report_of_ticket, happened_ma
 use Rattle.runs.proofs.StepLaws.{brought}
 
 module _ (r : Run) (c : Call) (q : Row) (v : RowFollows r q) where
-  abbrev a : Answer
+  abbrev a : CallAnswer
   a = answer_to r c
 
   -- a report at site s: what it leaves as it was
@@ -66,8 +67,8 @@ module _ (r : Run) (c : Call) (q : Row) (v : RowFollows r q) where
     uncommitted ac nc = later_iff r c (Commits (num q)) nc v.committed
 
   -- the report that is made now, and no other of this row
-  module _ (p : Report) (s k : ℕ) (e : c ≡ report_call p (num q) s k) (f : a ≡ Answer.Done) (ac : IsActive q) (hs : Has q s) (l : s < length q.parts)
-      (leads : (h : Stage) × (step_of (part_at q s).stage p ≡ Step.To h)) (pos : p ≡ Report.Ticket → 0 < k) where
+  module _ (p : Report) (s k : ℕ) (e : c ≡ report_call p (num q) s k) (f : a ≡ Ok Answer.Done) (ac : IsActive q) (hs : Has q s) (l : s < length q.parts)
+      (leads : (h : Stage) × (step_of (part_at q s).stage p ≡ Some h)) (pos : p ≡ Report.Ticket → 0 < k) where
     abbrev b : Ticket
     b = brought p k (part_at q s)
 
@@ -80,7 +81,7 @@ module _ (r : Run) (c : Call) (q : Row) (v : RowFollows r q) where
         (sym (ap (λ (m : Told). m.report) z), sym (ap (λ (m : Told). m.site) z))
 
     stage_now : (part_at w' s).stage ≡ leads.0
-    stage_now = ap (λ (y : Part). y.stage) (reported_same q s p b l) ∙ ap (stage_to (part_at q s).stage) leads.1
+    stage_now = ap (λ (y : Part). y.stage) (reported_same q s p b l) ∙ ap (λ x. unwrap_or x (part_at q s).stage) leads.1
 
     given_now : (x : Report) → given x (part_at w' s).stage ≡ given x (part_at q s).stage || same x p
     given_now x = ap (given x) stage_now ∙ given_step (part_at q s).stage leads.0 p leads.1 x
@@ -147,7 +148,7 @@ module _ (r : Run) (c : Call) (q : Row) (v : RowFollows r q) where
       committed = uncommitted s p b hs l ac (λ x. never (cc));
     }
 
-  pub row_committed : (t : Table) → c ≡ decide (num q) → a ≡ Answer.Commit (number (num q)) → RowFollows (call r c) (committed_row t q)
+  pub row_committed : (t : Table) → c ≡ decide (num q) → a ≡ Ok (Answer.Commit (number (num q))) → RowFollows (call r c) (committed_row t q)
   unfolding Happened committed_row tickets_of
   row_committed t e f = record {
     begun = inr v.begun;

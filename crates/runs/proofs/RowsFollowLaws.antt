@@ -2,6 +2,8 @@
 use mathlib.Core.Path.{◌≡◌, refl, sym, ap, subst, ◌∙◌}
 use mathlib.Core.Logic.{◌≢◌, inl, inr}
 use Prim.Native.Nat.{ℕ}
+use Rattle.method.specs.Calls.{CallAnswer}
+use Rattle.std.specs.Prelude.{Ok, Err}
 use Rattle.method.specs.declared.Report.{Report}
 use Rattle.method.specs.declared.Row.{Row}
 use Rattle.method.specs.declared.Table.{Table}
@@ -27,7 +29,7 @@ use Rattle.runs.proofs.RowFollowLaws.{Silent, row_silent, row_begun}
 use Rattle.runs.proofs.RowReportLaws.{row_reported, row_committed}
 
 -- a report is taken for an active one, and whoever commits stands in the table then
-module _ (t : Table) (c : Call) (a : Answer) (u : Table) where
+module _ (t : Table) (c : Call) (a : CallAnswer) (u : Table) where
   pub active_of_report : Change t c a u → (p : Report) (n s : ℕ) → Reports p n s t c a → (i : ℕ) × IsActive (row_at t i) × (num (row_at t i) ≡ n)
   active_of_report (refuses j e st q) p n s x = let y = x.2 in never (cc)
   active_of_report (opens first floors e f st cl b q) p n s x = absurd (no_report_open t c a first floors e p n s x)
@@ -49,7 +51,7 @@ module _ (t : Table) (c : Call) (a : Answer) (u : Table) where
   known_of_commit (clears q w sm) n x = absurd (q.commits n x)
 
 -- and so was begun before
-pub begun_of_happened : (P : Table → Call → Answer → Type 0) (n : ℕ) → ((t : Table) (c : Call) (a : Answer) (u : Table) → Change t c a u → P t c a → Known t n)
+pub begun_of_happened : (P : Table → Call → CallAnswer → Type 0) (n : ℕ) → ((t : Table) (c : Call) (a : CallAnswer) (u : Table) → Change t c a u → P t c a → Known t n)
     → (r : Run) → Happened P r → BegunIn r n
 unfolding Happened
 begun_of_happened P n h start x = absurd x
@@ -69,7 +71,7 @@ module _ (r : Run) (c : Call) (v : RowsFollow r) where
   abbrev u : Table
   u = (step (after r) c).table
 
-  abbrev a : Answer
+  abbrev a : CallAnswer
   a = answer_to r c
 
   abbrev Next : Row → Type 0
@@ -99,7 +101,7 @@ module _ (r : Run) (c : Call) (v : RowsFollow r) where
         commit = λ z. never (cc);
       }))
   rows_follow (commits m e f st w) = every w.changed Next
-      (λ g. row_committed r c (row_of_number t m) (v (slot_of t m) (not_free w.active)) t (e ∙ ap {B = Call} decide (sym w.named)) (f ∙ ap {B = Answer} (λ (y : ℕ). Answer.Commit (number y)) (sym w.named)))
+      (λ g. row_committed r c (row_of_number t m) (v (slot_of t m) (not_free w.active)) t (e ∙ ap {B = Call} decide (sym w.named)) (f ∙ ap {B = CallAnswer} (λ (y : ℕ). Ok (Answer.Commit (number y))) (sym w.named)))
       (others (slot_of t m) (λ j d g. record {
         reports = λ p x z. let y = z.2 in never (cc);
         commit = λ z. other_number (slot_of t m) j d (not_free w.active) g (sym (w.named ∙ (let q : decide m ≡ decide (num (row_at t j)) = cc in cc)));

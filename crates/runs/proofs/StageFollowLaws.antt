@@ -7,6 +7,7 @@ use Prim.Native.Nat.{ℕ, ◌<◌}
 use native.Mathlib.Omega.{arith}
 use native.Mathlib.Decide.{dec_lt}
 use Rattle.graph.proofs.TestLaws.{true_or_false, true_not_false}
+use Rattle.method.specs.Calls.{CallAnswer}
 use Rattle.method.specs.declared.Stage.{Stage}
 use Rattle.method.specs.declared.Report.{Report}
 use Rattle.method.specs.declared.Row.{Row}
@@ -37,7 +38,7 @@ begun_iff_given Stage.Ticketed = (λ e. never (cc), λ e. absurd (true_not_false
 begun_iff_given Stage.Prepared = (λ e. never (cc), λ e. absurd (true_not_false refl e))
 
 -- a ticket that was taken is not 0
-module _ (t : Table) (c : Call) (a : Answer) (u : Table) where
+module _ (t : Table) (c : Call) (a : CallAnswer) (u : Table) where
   taken_now : Change t c a u → (n s : ℕ) → Reports Report.Ticket n s t c a → (k : ℕ) × (0 < k) × TakesTicket n s k t c a
   taken_now (refuses j e st q) n s x = let y = x.2 in never (cc)
   taken_now (opens first floors e f st cl b q) n s x = absurd (no_report_open t c a first floors e Report.Ticket n s x)

@@ -12,10 +12,12 @@ use lib.ListN.{length}
 use Rattle.graph.specs.Acyclic.{acyclic}
 use Rattle.orders.specs.Arrow.{arrowb}
 use Rattle.orders.specs.Entries.{Entry}
+use Rattle.refusals.specs.declared.Refusal.{Refusal}
+use Rattle.method.specs.Calls.{CallAnswer}
+use Rattle.std.specs.Prelude.{Some, Ok, Err}
 use Rattle.method.specs.declared.Ticket.{Ticket}
 use Rattle.method.specs.declared.Stage.{Stage}
 use Rattle.method.specs.declared.Report.{Report}
-use Rattle.method.specs.declared.Step.{Step}
 use Rattle.method.specs.declared.Part.{Part}
 use Rattle.method.specs.declared.Row.{Row}
 use Rattle.method.specs.declared.Table.{Table}
@@ -51,27 +53,27 @@ brought Report.Ticket k x = ticket k
 brought Report.Prepared k x = x.ticket
 
 -- by this call, so answered, the number leaves the table
-abbrev pub Leaves : Table → Call → Answer → ℕ → Type 0
+abbrev pub Leaves : Table → Call → CallAnswer → ℕ → Type 0
 Leaves t c a n = Aborts n t c a ⊎ Forgets n t c a
 
-abbrev pub AllStay : Table → Call → Answer → Type 0
+abbrev pub AllStay : Table → Call → CallAnswer → Type 0
 AllStay t c a = (n : ℕ) → ¬ Leaves t c a n
 
-all_stay : (t : Table) (c : Call) (a : Answer) → ((n : ℕ) → c ≢ abort n) → ((n : ℕ) → a ≢ Answer.Cycle (number n)) → ((n : ℕ) → c ≢ forget n) → c ≢ sweep → AllStay t c a
+all_stay : (t : Table) (c : Call) (a : CallAnswer) → ((n : ℕ) → c ≢ abort n) → ((n : ℕ) → a ≢ (Ok (Answer.Cycle (number n)))) → ((n : ℕ) → c ≢ forget n) → c ≢ sweep → AllStay t c a
 all_stay t c a p q r s n (inl (inl k)) = p n k.0
 all_stay t c a p q r s n (inl (inr k)) = q n k.1
 all_stay t c a p q r s n (inr (inl k)) = r n k.0
 all_stay t c a p q r s n (inr (inr k)) = s k.0
 
 -- a refused call makes nobody leave: a sweep that is refused leaves the table as it was
-refused_stay : (t : Table) (c : Call) (a : Answer) (k : ℕ) → a ≡ Answer.Refused k → (step t c).table ≡ t → AllStay t c a
+refused_stay : (t : Table) (c : Call) (a : CallAnswer) (k : Refusal) → a ≡ Err k → (step t c).table ≡ t → AllStay t c a
 refused_stay t c a k e p n (inl (inl l)) = never (cc)
 refused_stay t c a k e p n (inl (inr l)) = never (cc)
 refused_stay t c a k e p n (inr (inl l)) = never (cc)
 refused_stay t c a k e p n (inr (inr l)) = l.2 (subst (λ (x : Table). Known x n) (sym p) l.1)
 
 -- from a table, by a call and its answer, to the next table
-module _ (t : Table) (c : Call) (a : Answer) (u : Table) where
+module _ (t : Table) (c : Call) (a : CallAnswer) (u : Table) where
   -- nothing but slots changed
   pub record Same : Type 0 where
     pub last : u.last.0 ≡ t.last.0
@@ -94,7 +96,7 @@ module _ (t : Table) (c : Call) (a : Answer) (u : Table) where
     pub named : num (row_at t i) ≡ n
     pub listed : Has (row_at t i) s
     pub inside : s < length (row_at t i).parts
-    pub leads : (h : Stage) × (step_of (part_at (row_at t i) s).stage p ≡ Step.To h)
+    pub leads : (h : Stage) × (step_of (part_at (row_at t i) s).stage p ≡ Some h)
     pub positive : p ≡ Report.Ticket → 0 < k
     pub changed : Changed (row_at t) i (reported (row_at t i) s p (brought p k (part_at (row_at t i) s))) (row_at u)
 
@@ -116,16 +118,16 @@ module _ (t : Table) (c : Call) (a : Answer) (u : Table) where
     pub left : (n : ℕ) → Leaves t c a n → Known t n × (¬ Known u n)
 
   pub data Change : Type 0 where
-    refuses : (k : ℕ) → a ≡ Answer.Refused k → AllStay t c a → u ≡ t → Change
-    opens : (first : ℕ) (floors : List ℕ) → c ≡ open_with first floors → a ≡ Answer.Done → AllStay t c a → Closed t → ¬ BadOpening first floors → u ≡ opened first floors → Change
-    begins : (sites i : ℕ) → c ≡ begin sites → a ≡ Answer.Begun (number (t.last.0 + 1)) → AllStay t c a → ¬ Closed t → IsFree (row_at t i) → Changed (row_at t) i (new_row t sites) (row_at u)
+    refuses : (k : Refusal) → a ≡ Err k → AllStay t c a → u ≡ t → Change
+    opens : (first : ℕ) (floors : List ℕ) → c ≡ open_with first floors → a ≡ Ok Answer.Done → AllStay t c a → Closed t → ¬ BadOpening first floors → u ≡ opened first floors → Change
+    begins : (sites i : ℕ) → c ≡ begin sites → a ≡ Ok (Answer.Begun (number (t.last.0 + 1))) → AllStay t c a → ¬ Closed t → IsFree (row_at t i) → Changed (row_at t) i (new_row t sites) (row_at u)
         → u.last.0 ≡ t.last.0 + 1 → ((s : ℕ) → high_at u s ≡ high_at t s) → u.sites ≡ t.sites → Change
-    reports : (p : Report) (n s k i : ℕ) → c ≡ report_call p n s k → a ≡ Answer.Done → AllStay t c a → Takes p n s k i → Same → Change
-    commits : (n : ℕ) → c ≡ decide n → a ≡ Answer.Commit (number n) → AllStay t c a → Seals n → Change
+    reports : (p : Report) (n s k i : ℕ) → c ≡ report_call p n s k → a ≡ Ok Answer.Done → AllStay t c a → Takes p n s k i → Same → Change
+    commits : (n : ℕ) → c ≡ decide n → a ≡ Ok (Answer.Commit (number n)) → AllStay t c a → Seals n → Change
     clears : Quiet → Empties → Same → Change
 
 -- one slot freed, whose number and no other leaves
-module _ (t : Table) (es : List Entry) (v : Invariant t es) (c : Call) (a : Answer) (u : Table) (i : ℕ) (oc : ¬ Closed t) (used : ¬ IsFree (row_at t i))
+module _ (t : Table) (es : List Entry) (v : Invariant t es) (c : Call) (a : CallAnswer) (u : Table) (i : ℕ) (oc : ¬ Closed t) (used : ¬ IsFree (row_at t i))
     (ch : Changed (row_at t) i free_row (row_at u)) (own : Leaves t c a (num (row_at t i))) (only : (n : ℕ) → Leaves t c a n → num (row_at t i) ≡ n) where
   gone : (n : ℕ) → num (row_at t i) ≡ n → ¬ Known u n
   gone n e (j, f, p) = elim (ch j) [
@@ -142,15 +144,15 @@ module _ (t : Table) (es : List Entry) (v : Invariant t es) (c : Call) (a : Answ
 
 -- every step is one of these
 module _ (t : Table) (es : List Entry) (v : Invariant t es) where
-  abbrev To : Call → Answered → Type 0
+  abbrev To : Call → Answered Table → Type 0
   To c r = Change t c r.answer r.table
 
-  same : (u : Table) (c : Call) (a : Answer) → u.last ≡ t.last → u.high ≡ t.high → u.sites ≡ t.sites → Same t c a u
+  same : (u : Table) (c : Call) (a : CallAnswer) → u.last ≡ t.last → u.high ≡ t.high → u.sites ≡ t.sites → Same t c a u
   same u c a l h s = record { last = rw l; high = λ i. rw h; sites = s }
 
   -- a report that nothing refuses
   module _ (n s : ℕ) (p : Report) (k : ℕ) (nc : ¬ Closed t) (nu : ¬ Unknown t n) (nl : ¬ NotListed (row_of_number t n) s) (ns : ¬ NoStep (row_of_number t n) s p)
-      (pos : p ≡ Report.Ticket → 0 < k) (c : Call) (a : Answer) (u : Table) (rows : u.rows ≡ (Rattle.method.specs.Records.with_row t (slot_of t n) (reported (row_of_number t n) s p (brought p k (part_at (row_of_number t n) s)))).rows) where
+      (pos : p ≡ Report.Ticket → 0 < k) (c : Call) (a : CallAnswer) (u : Table) (rows : u.rows ≡ (Rattle.method.specs.Records.with_row t (slot_of t n) (reported (row_of_number t n) s p (brought p k (part_at (row_of_number t n) s)))).rows) where
     takes : Takes t c a u p n s k (slot_of t n)
     takes =
         let g = found t n nu in
@@ -173,25 +175,25 @@ module _ (t : Table) (es : List Entry) (v : Invariant t es) where
       begins sites (free_slot t) refl refl (all_stay _ _ _ (λ i x. never (cc)) (λ i x. never (cc)) (λ i x. never (cc)) (λ x. never (cc))) a f (changed t (free_slot t) (new_row t sites) h) refl (λ s. refl) refl
   change_effect (report_ticket m s k) (a, (b, (c, (d, (e, (f, n)))))) =
       reports Report.Ticket m s k (slot_of t m) refl refl (all_stay _ _ _ (λ i x. never (cc)) (λ i x. never (cc)) (λ i x. never (cc)) (λ x. never (cc)))
-      (takes m s Report.Ticket k a b c d (λ z. omega (arith, above_base (row_of_number t m) s k e)) (report_ticket m s k) Answer.Done _ refl) (same _ _ _ refl refl refl)
+      (takes m s Report.Ticket k a b c d (λ z. omega (arith, above_base (row_of_number t m) s k e)) (report_ticket m s k) (Ok Answer.Done) _ refl) (same _ _ _ refl refl refl)
   change_effect (report_prepared m s) (a, (b, (c, (d, n)))) =
       reports Report.Prepared m s 0 (slot_of t m) refl refl (all_stay _ _ _ (λ i x. never (cc)) (λ i x. never (cc)) (λ i x. never (cc)) (λ x. never (cc)))
-      (takes m s Report.Prepared 0 a b c d (λ z. never (cc)) (report_prepared m s) Answer.Done _ refl) (same _ _ _ refl refl refl)
+      (takes m s Report.Prepared 0 a b c d (λ z. never (cc)) (report_prepared m s) (Ok Answer.Done) _ refl) (same _ _ _ refl refl refl)
   change_effect (abort m) (a, (b, (c, n))) =
       let g = found t m b in
       clears
-      (record { opens = λ f fs x. never (cc); begins = λ i x y. never (cc); reports = no_report_abort t (abort m) Answer.Done m refl; commits = λ i x. never (cc); notes = λ es. refl; counts = refl })
-      (empties_one t es v (abort m) Answer.Done _ (slot_of t m) a g.used (changed t (slot_of t m) free_row g.slot) (inl (inl (rw g.named (refl, refl)))) (λ i l. g.named ∙ aborted i l))
+      (record { opens = λ f fs x. never (cc); begins = λ i x y. never (cc); reports = no_report_abort t (abort m) (Ok Answer.Done) m refl; commits = λ i x. never (cc); notes = λ es. refl; counts = refl })
+      (empties_one t es v (abort m) (Ok Answer.Done) _ (slot_of t m) a g.used (changed t (slot_of t m) free_row g.slot) (inl (inl (rw g.named (refl, refl)))) (λ i l. g.named ∙ aborted i l))
       (same _ _ _ refl refl refl)
     where
-      aborted : (i : ℕ) → Leaves t (abort m) Answer.Done i → m ≡ i
+      aborted : (i : ℕ) → Leaves t (abort m) (Ok Answer.Done) i → m ≡ i
       aborted i (inl (inl l)) = cc
       aborted i (inl (inr l)) = never (cc)
       aborted i (inr (inl l)) = never (cc)
       aborted i (inr (inr l)) = never (cc)
   change_effect (decide m) (a, (b, (c, n))) = go (acyclic arrowb (tickets_of (row_of_number t m) ∷ map tickets_of (kept t)))
     where
-      cycled : (i : ℕ) → Leaves t (decide m) (Answer.Cycle (number m)) i → m ≡ i
+      cycled : (i : ℕ) → Leaves t (decide m) (Ok (Answer.Cycle (number m))) i → m ≡ i
       cycled i (inl (inl l)) = never (cc)
       cycled i (inl (inr l)) = cc
       cycled i (inr (inl l)) = never (cc)
@@ -211,16 +213,16 @@ module _ (t : Table) (es : List Entry) (v : Invariant t es) where
       go false = let g = found t m b in
           clears
           (record { opens = λ f fs x. never (cc); begins = λ i x y. never (cc); reports = λ p i s x. let z = x.2 in never (cc); commits = λ i x. never (cc); notes = λ es. refl; counts = refl })
-          (empties_one t es v (decide m) (Answer.Cycle (number m)) _ (slot_of t m) a g.used (changed t (slot_of t m) free_row g.slot) (inl (inr (rw g.named (refl, refl)))) (λ i l. g.named ∙ cycled i l))
+          (empties_one t es v (decide m) (Ok (Answer.Cycle (number m))) _ (slot_of t m) a g.used (changed t (slot_of t m) free_row g.slot) (inl (inr (rw g.named (refl, refl)))) (λ i l. g.named ∙ cycled i l))
           (same _ _ _ refl refl refl)
   change_effect (forget m) (a, (b, (c, (d, n)))) =
       let g = found t m b in
       clears
-      (record { opens = λ f fs x. never (cc); begins = λ i x y. never (cc); reports = no_report_forget t (forget m) Answer.Done m refl; commits = λ i x. never (cc); notes = λ es. refl; counts = refl })
-      (empties_one t es v (forget m) Answer.Done _ (slot_of t m) a g.used (changed t (slot_of t m) free_row g.slot) (inr (inl (rw g.named (refl, refl)))) (λ i l. g.named ∙ forgotten i l))
+      (record { opens = λ f fs x. never (cc); begins = λ i x y. never (cc); reports = no_report_forget t (forget m) (Ok Answer.Done) m refl; commits = λ i x. never (cc); notes = λ es. refl; counts = refl })
+      (empties_one t es v (forget m) (Ok Answer.Done) _ (slot_of t m) a g.used (changed t (slot_of t m) free_row g.slot) (inr (inl (rw g.named (refl, refl)))) (λ i l. g.named ∙ forgotten i l))
       (same _ _ _ refl refl refl)
     where
-      forgotten : (i : ℕ) → Leaves t (forget m) Answer.Done i → m ≡ i
+      forgotten : (i : ℕ) → Leaves t (forget m) (Ok Answer.Done) i → m ≡ i
       forgotten i (inl (inl l)) = never (cc)
       forgotten i (inl (inr l)) = never (cc)
       forgotten i (inr (inl l)) = cc
@@ -231,7 +233,7 @@ module _ (t : Table) (es : List Entry) (v : Invariant t es) where
       (same _ _ _ refl refl refl)
     where
       swept : (step t sweep).table ≡ swept_table t
-      swept = ap (λ (x : Answered). x.table) (done_exactly t sweep (a, n))
+      swept = ap (λ (x : Answered Table). x.table) (done_exactly t sweep (a, n))
 
       used : (i : ℕ) → IsCommitted (row_at t i) → ¬ IsFree (row_at t i)
       used i c f = never (cc)
@@ -245,13 +247,13 @@ module _ (t : Table) (es : List Entry) (v : Invariant t es) where
         | inr z ↦ f (ap (λ (r : Row). r.state) z.1)
       ]
 
-      slots : (i : ℕ) → (row_at (swept_table t) i ≡ row_at t i) ⊎ ((row_at (swept_table t) i ≡ free_row) × (¬ IsFree (row_at t i)) × Leaves t sweep (Answer.Swept (swept_count t)) (num (row_at t i)))
+      slots : (i : ℕ) → (row_at (swept_table t) i ≡ row_at t i) ⊎ ((row_at (swept_table t) i ≡ free_row) × (¬ IsFree (row_at t i)) × Leaves t sweep (Ok (Answer.Swept (swept_count t))) (num (row_at t i)))
       slots i = elim (slot_swept t i) [
         | inl e ↦ inl e
         | inr (c, e) ↦ inr (e, used i c, inr (inr (refl, (i, used i c, refl), gone i c e)))
       ]
 
-      left : (m : ℕ) → Leaves t sweep (Answer.Swept (swept_count t)) m → Known t m × (¬ Known (swept_table t) m)
+      left : (m : ℕ) → Leaves t sweep (Ok (Answer.Swept (swept_count t))) m → Known t m × (¬ Known (swept_table t) m)
       left m (inl (inl l)) = never (cc)
       left m (inl (inr l)) = never (cc)
       left m (inr (inl l)) = never (cc)

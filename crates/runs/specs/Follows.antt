@@ -3,6 +3,7 @@ use Rattle.std.specs.Prelude.{◌≡◌, true, List, ◌↔◌, ◌⊎◌, ℕ, 
 use Rattle.graph.specs.Lists.{◌∈◌}
 use Rattle.orders.specs.Arrow.{ticket_at}
 use Rattle.orders.specs.Entries.{Entry}
+use Rattle.method.specs.Calls.{CallAnswer}
 use Rattle.method.specs.declared.Report.{Report}
 use Rattle.method.specs.declared.Row.{Row}
 use Rattle.method.specs.declared.Table.{Table}
@@ -15,7 +16,7 @@ use Rattle.runs.specs.Run.{Run, after, Happened, Opens, Begins, TakesTicket, Rep
 use Rattle.runs.specs.History.{history}
 
 -- begun with these sites, at a table whose highest tickets were these bases
-abbrev pub BeginsAt : Row → Table → Call → Answer → Type 0
+abbrev pub BeginsAt : Row → Table → Call → CallAnswer → Type 0
 BeginsAt q t c a = Begins (num q) q.sites t c a × ((s : ℕ) → Has q s → base q s ≡ high_at t s)
 
 -- a row in use after a run

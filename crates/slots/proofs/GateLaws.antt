@@ -1,45 +1,46 @@
--- What the gate of a number says of the first two checks of every call that names one. Assumes nothing.
-use mathlib.Core.Path.{◌≡◌, sym, ap}
-use mathlib.Core.Bool.{Bool, true, false, cond}
-use mathlib.Core.List.{List, ◌∷◌}
-use mathlib.Core.Option.{Option, some}
-use mathlib.Core.Logic.{◌⊎◌, inl, inr}
-use Prim.Native.Nat.{ℕ, ◌<◌}
-use native.Mathlib.Omega.{arith}
-use lib.ListN.{length}
-use Rattle.graph.proofs.TestLaws.{true_or_false, true_not_false}
+-- What is found of a number, and of a free slot, as checks of crate `method`. Assumes nothing.
+use mathlib.Core.Path.{◌≡◌, refl, sym, ◌∙◌}
+use mathlib.Core.Bool.{Bool, true, false, cond, not}
+use mathlib.Core.List.{List, [], ◌∷◌, ◌++◌}
+use Prim.Native.Nat.{ℕ}
+use Rattle.std.specs.Prelude.{Some, None, ok_or, position, Result, Ok, Err}
+use Rattle.std.specs.List.{position_or_len}
+use Rattle.refusals.specs.declared.Refusal.{Refusal}
+use Rattle.graph.specs.Lists.{any_of}
+use Rattle.method.specs.declared.Row.{Row}
 use Rattle.method.specs.declared.Table.{Table}
-use Rattle.method.specs.Slots.{slot_of}
-use Rattle.method.specs.Conditions.{is_closed, unknown}
-use Rattle.method.specs.Calls.{first_true}
-use Rattle.slots.specs.declared.Gate.{Gate}
+use Rattle.method.specs.Records.{is_free}
+use Rattle.method.specs.Slots.{has_number, slot_of, free_slot}
+use Rattle.method.specs.Conditions.{is_closed, unknown, is_full}
+use Rattle.method.specs.Calls.{checked}
+use Rattle.method.proofs.SlotLaws.{place_of_first}
+use Rattle.method.proofs.CheckLaws.{stops, goes_on}
 use Rattle.slots.specs.Gate.{gate_of}
-use Rattle.method.proofs.RecordLaws.{never}
-use Rattle.method.proofs.CheckLaws.{unknown_of_end, known_of_slot}
 
--- the first two checks of a call that names a number, by what the gate found
-pub gate_refused : (t : Table) (n k : ℕ) (rest : List (ℕ × Bool)) → gate_of t n ≡ Gate.Refused k → first_true ((1, is_closed t) ∷ (2, unknown t n) ∷ rest) ≡ some k
-unfolding gate_of
-gate_refused t n k rest e = go (is_closed t) (unknown t n) e
+-- a search that ends in a refusal is a check and a value
+searched : (f : Row → Bool) (rows : List Row) (r : Refusal) → ok_or (position f rows) r ≡ checked ((r, not (any_of f rows)) ∷ []) (position_or_len f rows)
+searched f rows r = rw (place_of_first f rows) (go (any_of f rows))
   where
-    go : (a b : Bool) → cond a (Gate.Refused 1) (cond b (Gate.Refused 2) (Gate.At (slot_of t n))) ≡ Gate.Refused k → first_true ((1, a) ∷ (2, b) ∷ rest) ≡ some k
-    go true b e = ap {B = Option ℕ} some (cc)
-    go false true e = ap {B = Option ℕ} some (cc)
-    go false false e = never (cc)
+    go : (b : Bool) → ok_or (cond b (Some (position_or_len f rows)) None) r ≡ checked ((r, not b) ∷ []) (position_or_len f rows)
+    go true = refl
+    go false = refl
 
-pub record Passed (t : Table) (n i : ℕ) (rest : List (ℕ × Bool)) : Type 0 where
-  pub on : first_true ((1, is_closed t) ∷ (2, unknown t n) ∷ rest) ≡ first_true rest
-  pub slot : i ≡ slot_of t n
-  pub inside : i < 32
+-- the first two checks of a call that names a number
+abbrev pub gate_checks : Table → ℕ → List (Refusal × Bool)
+gate_checks t n = (Refusal.NotOpen, is_closed t) ∷ (Refusal.Unknown, unknown t n) ∷ []
 
-pub gate_passed : (t : Table) → length t.rows ≡ 32 → (n i : ℕ) (rest : List (ℕ × Bool)) → gate_of t n ≡ Gate.At i → Passed t n i rest
-unfolding gate_of
-gate_passed t l n i rest e = go (true_or_false (is_closed t)) (true_or_false (unknown t n))
-  where
-    go : (is_closed t ≡ true) ⊎ (is_closed t ≡ false) → (unknown t n ≡ true) ⊎ (unknown t n ≡ false) → Passed t n i rest
-    go (inl a) b = let z : Gate.Refused 1 ≡ Gate.At i = rw a at e in never (cc)
-    go (inr a) (inl b) = let z : Gate.Refused 2 ≡ Gate.At i = rw (a, b) at e in never (cc)
-    go (inr a) (inr b) =
-        let z : Gate.At (slot_of t n) ≡ Gate.At i = rw (a, b) at e in
-        let s : slot_of t n ≡ i = cc in
-        record { on = rw (a, b); slot = sym s; inside = omega (arith, (known_of_slot t l n (λ q. true_not_false (unknown_of_end t l n q) b)).1) }
+pub gate_is : (t : Table) (n : ℕ) → gate_of t n ≡ checked (gate_checks t n) (slot_of t n)
+unfolding slot_of
+gate_is t n = rw (searched (has_number n) t.rows Refusal.Unknown)
+
+-- and with more checks behind them
+module _ (t : Table) (n : ℕ) (rest : List (Refusal × Bool)) {A : Type 0} (a : A) where
+  pub gate_stops : {k : Refusal} → gate_of t n ≡ Err k → checked (gate_checks t n ++ rest) a ≡ Err k
+  gate_stops e = stops (gate_checks t n) rest (slot_of t n) a (sym (gate_is t n) ∙ e)
+
+  pub gate_goes_on : {i : ℕ} → gate_of t n ≡ Ok i → (checked (gate_checks t n ++ rest) a ≡ checked rest a) × (i ≡ slot_of t n)
+  gate_goes_on e = goes_on (gate_checks t n) rest (slot_of t n) a (sym (gate_is t n) ∙ e)
+
+pub room_is : (t : Table) → ok_or (position (λ (r : Row). is_free r.state) t.rows) Refusal.Full ≡ checked ((Refusal.Full, is_full t) ∷ []) (free_slot t)
+unfolding free_slot
+room_is t = searched (λ (r : Row). is_free r.state) t.rows Refusal.Full

@@ -1,2 +1,1 @@
 pub mod Gate
-pub mod Suiting

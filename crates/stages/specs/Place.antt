@@ -1,17 +1,19 @@
--- The checks 3 and 4 of a report, as the code makes them. proofs/PlaceLaws.antt joins them to the checks of crate `method`.
-use Rattle.std.specs.Prelude.{cond, ℕ}
-use Rattle.stages.specs.declared.Place.{Place}
+-- The checks 3 and 4 of a report, and where it leads the site that passes them.
+use Rattle.std.specs.Prelude.{Bool, List, [], ◌∷◌, ℕ, unwrap_or, Result}
+use Rattle.refusals.specs.declared.Refusal.{Refusal}
+use Rattle.method.specs.declared.Stage.{Stage}
 use Rattle.method.specs.declared.Report.{Report}
-use Rattle.method.specs.declared.Step.{Step}
 use Rattle.method.specs.declared.Row.{Row}
 use Rattle.method.specs.Records.{part_at}
 use Rattle.method.specs.Stages.{step_of}
-use Rattle.method.specs.Conditions.{not_listed}
+use Rattle.method.specs.Conditions.{not_listed, no_step}
+use Rattle.method.specs.Calls.{checked}
 
--- 3 and 4, for a report
-abbrev pub step_place : Step → Place
-step_place (Step.To g) = Place.To g
-step_place Step.Refused = Place.Refused 4
+abbrev pub place_checks : Row → ℕ → Report → List (Refusal × Bool)
+place_checks r s p = (Refusal.BadSite, not_listed r s) ∷ (Refusal.OutOfTurn, no_step r s p) ∷ []
 
-unfoldable pub place_of : Row → ℕ → Report → Place
-place_of r s p = cond (not_listed r s) (Place.Refused 3) (step_place (step_of (part_at r s).stage p))
+abbrev pub next_stage : Row → ℕ → Report → Stage
+next_stage r s p = unwrap_or (step_of (part_at r s).stage p) (part_at r s).stage
+
+abbrev pub place_of : Row → ℕ → Report → Result Stage Refusal
+place_of r s p = checked (place_checks r s p) (next_stage r s p)

@@ -10,6 +10,8 @@ use lib.Dec.{eqb}
 use lib.ListN.{length, get_or, set, take, drop, drop_of_length-le}
 use lib.Seq.{take_all}
 use borrow.Author.Tests.{eqb-true, eq-eqb, ne_eqb}
+use Rattle.std.specs.Prelude.{Ok, Err}
+use Rattle.refusals.specs.declared.Refusal.{Refusal}
 use Rattle.graph.proofs.TestLaws.{or_of_right, either_of_or, and_of_both, both_of_and, same_of_iff}
 use Rattle.graph.proofs.LeftLaws.{keep_keep}
 use Rattle.paths.specs.Paths.{Marked, TellsReached}
@@ -27,7 +29,7 @@ use Rattle.method.specs.Calls.Call.{sweep}
 use Rattle.method.specs.Effects.{answered, stays, swept_row, swept_count, effect, step}
 use Rattle.method.specs.Conditions.{HeldBack, held_back}
 use Rattle.method.specs.Calls.{checks}
-use Rattle.method.proofs.CheckLaws.{stopped, unstopped}
+use Rattle.method.proofs.CheckLaws.{refused_step, passed_step}
 use Rattle.method.proofs.ConditionLaws.{held_back_iff}
 use Rattle.method.proofs.GraphLaws.{stays_iff}
 use Rattle.sweeps.specs.Marks.{goes, HeldMarks, StayMarks}
@@ -112,7 +114,7 @@ one_le false = omega arith
 
 -- all rows replaced are the table after the sweep, and those counted are those that went
 pub swept_all : (t u : Table) (n i : ℕ) → length t.rows ≡ 32 → 32 ≤ i → u ≡ with_rows t (replaced (swept_row t) past_end t.rows i)
-    → n ≡ passing (goes_in t) past_end t.rows i → answered u (Answer.Swept n) ≡ effect t sweep
+    → n ≡ passing (goes_in t) past_end t.rows i → answered u (Ok (Answer.Swept n)) ≡ effect t sweep
 unfolding effect swept_count kept
 swept_all t u n i l h e f =
     let a : take i t.rows ≡ t.rows = take_all i t.rows (omega arith) in
@@ -121,13 +123,13 @@ swept_all t u n i l h e f =
     rw (e, f, a, d, append-nil (map (swept_row t) t.rows), keep_keep committed (λ r. not (stays t r)) (goes_in t) (λ r. refl) t.rows)
 
 module _ (t : Table) where
-  pub sweep_closed : t.sites ≡ 0 → step t sweep ≡ answered t (Answer.Refused 1)
+  pub sweep_closed : t.sites ≡ 0 → step t sweep ≡ answered t (Err Refusal.NotOpen)
   unfolding checks
-  sweep_closed e = stopped t sweep 1 (rw (eq-eqb t.sites 0 e))
+  sweep_closed e = refused_step t sweep (tt {0}) (rw (eq-eqb t.sites 0 e))
 
   pub sweep_open : (t.sites ≡ 0 → ⊥) → step t sweep ≡ effect t sweep
   unfolding checks
-  sweep_open z = unstopped t sweep (rw (ne_eqb t.sites 0 z))
+  sweep_open z = (passed_step t sweep (tt {0}) {v = tt {0}} (rw (ne_eqb t.sites 0 z))).0
 
   -- the graph's answer marks the kept rows that stay
   module _ (l : length t.rows ≡ 32) (flat : List ℕ) (al : Aligned t 32 flat) (marks : List Bool) (hm : HeldMarks t marks) where

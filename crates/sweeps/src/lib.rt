@@ -8,6 +8,7 @@ ghost use Rattle.method.specs.Effects.{effect, step};
 ghost use Rattle.sweeps.specs.Marks.{HeldMarks, StayMarks, goes as goesAway};
 
 use method::{Answer, Answered, Row, Table};
+use refusals::Refusal;
 
 // The kept rows that an active transaction holds back. Slots without one are passed by.
 fn held(t: Table) -> [bool; 32]
@@ -55,7 +56,7 @@ fn counts(row: Row, stays: bool) -> u32
 }
 
 // The rows that do not stay go, and are counted.
-fn cleared(t: Table, stay: [bool; 32]) -> Answered
+fn cleared(t: Table, stay: [bool; 32]) -> Answered<Table>
     requires { StayMarks t stay }
     ensures answer { result ≡ effect t sweepCall }
 {
@@ -72,15 +73,15 @@ fn cleared(t: Table, stay: [bool; 32]) -> Answered
     }
     Answered {
         table: u,
-        answer: Answer::Swept(n),
+        answer: Ok(Answer::Swept(n)),
     }
 }
 
-pub fn sweep(t: Table) -> Answered
+pub fn sweep(t: Table) -> Answered<Table>
     ensures answer { result ≡ step t sweepCall }
 {
     if t.sites == 0 {
-        return records::refuse(t, 1);
+        return records::refuse(t, Refusal::NotOpen);
     }
     let flat = kept::aligned::tickets(t, 32);
     let marks = held(t);

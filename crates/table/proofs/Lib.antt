@@ -1,2 +1,1 @@
-pub mod ShutLaws
 pub mod UsedLaws

@@ -2,17 +2,16 @@
 use Rattle.std.specs.Prelude.{cond, ℕ}
 use Rattle.sites.specs.Sites.{sites_used}
 use Rattle.method.specs.declared.Table as method
-use Rattle.method.specs.declared.Answer.{Answer}
 use Rattle.method.specs.Slots.{row_of_number}
 use Rattle.method.specs.Conditions.{is_closed, unknown}
-use Rattle.method.specs.Calls.{Call}
+use Rattle.method.specs.Calls.{Call, CallAnswer}
 use Rattle.method.specs.Effects.{step}
 use Rattle.table.specs.declared.Table.{Table}
 
 abbrev pub shut_table : method.Table → Table
 shut_table t = record { held = t }
 
-abbrev pub answer_to : Table → Call → Answer
+abbrev pub answer_to : Table → Call → CallAnswer
 answer_to t c = (step t.held c).answer
 
 abbrev pub table_after : Table → Call → Table

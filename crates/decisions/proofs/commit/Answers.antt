@@ -1,5 +1,7 @@
 -- `decisions::commit` meets its contract. Assumes nothing.
 use mathlib.Core.Path.{ap}
+use Rattle.std.specs.Prelude.{Ok}
+use Rattle.method.specs.declared.Table.{Table}
 use Rattle.method.specs.declared.Answer.{Answer}
 use Rattle.method.specs.declared.Answered.{Answered}
 use Rattle.method.specs.Records.{row_at, with_row, with_high}
@@ -8,4 +10,4 @@ use Rattle.decisions.proofs.commit.Goals as goal
 
 pub returns : goal.returns
 unfolding committed_row
-returns c = let a = c.args in record { answer = ap {B = Answered} (λ hs. answered (with_high (with_row a.t a.slot (committed_row a.t (row_at a.t a.slot))) hs) (Answer.Commit a.n)) c.raised-high.ensures.answer }
+returns c = let a = c.args in record { answer = ap {B = Answered Table} (λ hs. answered (with_high (with_row a.t a.slot (committed_row a.t (row_at a.t a.slot))) hs) (Ok (Answer.Commit a.n))) c.raised-table.ensures.answer }

@@ -1,108 +1,22 @@
--- `reports::report_ticket` meets its contract: each way out is one of the laws on reports. Assumes nothing.
-use mathlib.Core.Path.{◌≡◌, refl, sym, ◌∙◌}
-use Prim.Native.Nat.{ℕ, ◌<◌}
-use native.Mathlib.Omega.{arith}
-use lib.ListN.{length}
-use borrow.Author.Rules.{rules}
-use Rattle.method.specs.declared.Report.{Report}
-use Rattle.method.specs.declared.Row.{Row}
-use Rattle.method.specs.declared.Table.{Table}
-use Rattle.method.specs.Records.{row_at, part_at, ticket, with_row}
-use mathlib.Core.Option.{some}
-use Rattle.method.specs.Calls.{first_true}
-use Rattle.method.specs.Calls.Call.{report_ticket}
+-- `reports::report_ticket` meets its contract. Assumes nothing.
+use mathlib.Core.Path.{◌≡◌, sym, ap, ◌∙◌}
+use Rattle.std.specs.Prelude.{Ok}
 use Rattle.method.specs.declared.Answer.{Answer}
-use Rattle.method.specs.Slots.{slot_of, row_of_number}
-use Rattle.method.specs.Effects.{answered, reported, effect, step}
-use Rattle.method.proofs.SearchLaws.{unmapped}
-use Rattle.method.proofs.CheckLaws.{stopped}
-use Rattle.slots.specs.declared.Gate.{Gate}
-use Rattle.slots.specs.Gate.{gate_of}
-use Rattle.stages.specs.declared.Place.{Place}
-use Rattle.stages.specs.Place.{place_of}
-use Rattle.reports.proofs.ReportLaws.{report_unknown, report_inside, report_misplaced, report_site, report_on, report_base, report_done}
-use Rattle.reports.proofs.TicketLaws.{own, ticket_checks, ticket_below, ticket_rival, ticket_free}
-use Rattle.reports.proofs.report_ticket.Goals.{After-enter, In-At, In-To}
+use Rattle.method.specs.Records.{with_row}
+use Rattle.method.specs.Calls.Call.{report_ticket}
+use Rattle.method.specs.Effects.{answered, effect}
+use Rattle.method.proofs.CheckLaws.{refused_step, passed_step}
+use Rattle.reports.specs.Reported.{ticketed}
 use Rattle.reports.proofs.report_ticket.Goals as goal
 
--- what the call was handed
-module _ (c : After-enter) where
-  slots : length c.args.t.rows ≡ 32
-  slots = search (rules, unmapped)
-
--- past the gate
-module _ (c : In-At) where
-  at : gate_of c.args.t c.args.n.0 ≡ Gate.At c.in-At.slot
-  at = sym c.enter.ensures.answer ∙ c.in-At.is
-
-  rows : length c.args.t.rows ≡ 32
-  rows = search (rules, unmapped)
-
-  inside : c.in-At.slot < 32
-  inside = report_inside c.args.t rows c.args.n.0 c.args.s Report.Ticket (own c.args.t c.args.n.0 c.args.s c.args.k.0) (report_ticket c.args.n.0 c.args.s c.args.k.0) (ticket_checks c.args.t c.args.n.0 c.args.s c.args.k.0) c.in-At.slot at
-
--- past the place: `l` and `a` are what stands past the gate
-module _ (c : In-To) (l : length c.args.t.rows ≡ 32) (a : gate_of c.args.t c.args.n.0 ≡ Gate.At c.in-At.slot) where
-  to : place_of (row_at c.args.t c.in-At.slot) c.args.s Report.Ticket ≡ Place.To c.in-To.g
-  to = sym c.next_place.ensures.answer ∙ c.in-To.is
-
-  site : c.args.s < 8
-  site = report_site c.args.t l c.args.n.0 c.args.s Report.Ticket (own c.args.t c.args.n.0 c.args.s c.args.k.0) (report_ticket c.args.n.0 c.args.s c.args.k.0) (ticket_checks c.args.t c.args.n.0 c.args.s c.args.k.0) c.in-At.slot a c.in-To.g to
-
-  -- behind the shared checks: what stops it now stops the call
-  stops : (x : ℕ) → first_true (own c.args.t c.args.n.0 c.args.s c.args.k.0) ≡ some x → step c.args.t (report_ticket c.args.n.0 c.args.s c.args.k.0) ≡ answered c.args.t (Answer.Refused x)
-  stops x f = stopped c.args.t (report_ticket c.args.n.0 c.args.s c.args.k.0) x (report_on c.args.t l c.args.n.0 c.args.s Report.Ticket (own c.args.t c.args.n.0 c.args.s c.args.k.0) (report_ticket c.args.n.0 c.args.s c.args.k.0) (ticket_checks c.args.t c.args.n.0 c.args.s c.args.k.0) c.in-At.slot a c.in-To.g to ∙ f)
-
-  base : (part_at (row_at c.args.t c.in-At.slot) c.args.s).base.0 ≡ (part_at (row_of_number c.args.t c.args.n.0) c.args.s).base.0
-  base = report_base c.args.t l c.args.n.0 c.args.s Report.Ticket (own c.args.t c.args.n.0 c.args.s c.args.k.0) (report_ticket c.args.n.0 c.args.s c.args.k.0) (ticket_checks c.args.t c.args.n.0 c.args.s c.args.k.0) c.in-At.slot a c.in-To.g to
-
-pub offset_bounds-t-slot : goal.offset_bounds-t-slot
-offset_bounds-t-slot c = omega (arith, inside (goal.at.offset_bounds-t-slot c).In-At)
-
-pub bounds-t-slot : goal.bounds-t-slot
-bounds-t-slot c = inside (goal.at.bounds-t-slot c).In-At
-
-pub bounds-row-site : goal.bounds-row-site
-bounds-row-site c = let w = goal.at.bounds-row-site c in site w.In-To (rows w.In-At) (at w.In-At)
-
-pub returns-then-k-base : goal.returns-then-k-base
-returns-then-k-base c =
-    let w = goal.at.returns-then-k-base c in let l = rows w.In-At in let a = at w.In-At in
-    record { answer = c.refuse-then-k-base.ensures.answer ∙ sym (stops w.In-To l a 5 (ticket_below c.args.t c.args.n.0 c.args.s c.args.k.0 _ (base w.In-To l a) c.if-k-base.true)) }
-
-pub returns-then-is_taken : goal.returns-then-is_taken
-returns-then-is_taken c =
-    let w = goal.at.returns-then-is_taken c in let l = rows w.In-At in let a = at w.In-At in
-    record {
-      answer = c.refuse-then-is_taken.ensures.answer
-          ∙ sym (stops w.In-To l a 6 (ticket_rival c.args.t c.args.n.0 c.args.s c.args.k.0 _ (base w.In-To l a) c.if-k-base.false (sym c.is_taken.ensures.answer ∙ c.if-is_taken.true)));
-    }
-
-pub with_part-requires : goal.with_part-requires
-with_part-requires c = let w = goal.at.with_part-requires c in (inside w.In-At, site w.In-To (rows w.In-At) (at w.In-At))
-
-pub returns-in-Refused : goal.returns-in-Refused
-returns-in-Refused c =
-    let r : gate_of c.args.t c.args.n.0 ≡ Gate.Refused c.in-Refused.x = sym c.enter.ensures.answer ∙ c.in-Refused.is in
-    let l = slots (goal.at.returns-in-Refused c).After-enter in
-    record { answer = c.refuse.ensures.answer ∙ sym (report_unknown c.args.t l c.args.n.0 c.args.s Report.Ticket (own c.args.t c.args.n.0 c.args.s c.args.k.0) (report_ticket c.args.n.0 c.args.s c.args.k.0) (ticket_checks c.args.t c.args.n.0 c.args.s c.args.k.0) _ r) }
-
-pub returns-in-Refused-next_place : goal.returns-in-Refused-next_place
-returns-in-Refused-next_place c =
-    let w = goal.at.returns-in-Refused-next_place c in
-    let r : place_of (row_at c.args.t c.in-At.slot) c.args.s Report.Ticket ≡ Place.Refused c.in-Refused-next_place.y =
-    sym c.next_place.ensures.answer ∙ c.in-Refused-next_place.is in
-    record {
-      answer = c.refuse-in-Refused-next_place.ensures.answer
-          ∙ sym (report_misplaced c.args.t (rows w.In-At) c.args.n.0 c.args.s Report.Ticket (own c.args.t c.args.n.0 c.args.s c.args.k.0) (report_ticket c.args.n.0 c.args.s c.args.k.0) (ticket_checks c.args.t c.args.n.0 c.args.s c.args.k.0) c.in-At.slot (at w.In-At) _ r);
-    }
-
-done : (t : Table) (n s k : ℕ) → effect t (report_ticket n s k) ≡ answered (with_row t (slot_of t n) (reported (row_of_number t n) s Report.Ticket (ticket k))) Answer.Done
+pub returns-in-Ok : goal.returns-in-Ok
 unfolding effect
-done t n s k = refl
+returns-in-Ok c =
+    let a = c.args in
+    let (e, v) = passed_step a.t (report_ticket a.n.0 a.s a.k.0) (ticketed a.t a.n.0 a.s a.k.0) (sym c.ticketed.ensures.answer ∙ c.in-Ok.is) in
+    record { answer = c.with_row.ensures.answer ∙ ap (λ x. answered (with_row a.t x.0 x.1) (Ok Answer.Done)) v ∙ sym e }
 
-pub returns-else-is_taken : goal.returns-else-is_taken
-returns-else-is_taken c =
-    let w = goal.at.returns-else-is_taken c in let l = rows w.In-At in let a = at w.In-At in
-    let free = ticket_free c.args.t c.args.n.0 c.args.s c.args.k.0 _ (base w.In-To l a) c.if-k-base.false (sym c.is_taken.ensures.answer ∙ c.if-is_taken.false) in
-    record { answer = report_done c.args.t l c.args.n.0 c.args.s Report.Ticket (own c.args.t c.args.n.0 c.args.s c.args.k.0) (report_ticket c.args.n.0 c.args.s c.args.k.0) (ticket_checks c.args.t c.args.n.0 c.args.s c.args.k.0) c.in-At.slot a c.in-To.g (to w.In-To l a) (λ (r : Row). ticket c.args.k.0) free (done c.args.t c.args.n.0 c.args.s c.args.k.0) c.with_part.result c.with_part.ensures.answer }
+pub returns-in-Err : goal.returns-in-Err
+returns-in-Err c =
+    let a = c.args in
+    record { answer = c.refuse.ensures.answer ∙ sym (refused_step a.t (report_ticket a.n.0 a.s a.k.0) (ticketed a.t a.n.0 a.s a.k.0) (sym c.ticketed.ensures.answer ∙ c.in-Err.is)) }
