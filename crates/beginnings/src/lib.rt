@@ -34,7 +34,7 @@ fn begun_at(base: Ticket) -> Part
 }
 
 // Each listed site at the first stage, its base the highest committed ticket there.
-#[tactic(auto, using(sites::proofs::SitesLaws::lt_of_first), unfolding(method::specs::Effects::based))]
+#[tactic(auto, using(sites::proofs::SitesLaws::first_lt), unfolding(method::specs::Effects::based))]
 fn based(high: &[Ticket; SITES], x: u8) -> [Part; SITES]
     ensures answer { result ≡ basedParts high.now (sites_of x) (replicate 8 no_part) }
 {

@@ -3,32 +3,20 @@
 #![tactic(auto)]
 
 ghost use Rattle.std.specs.Prelude.{◌≡◌};
-ghost use Rattle.method.specs.Records.{goesb};
 ghost use Rattle.method.specs.Conditions.{has_pred, held_back};
 
-use method::{Row, State, Table, Ticket};
-
-// Is there a site at which both hold a ticket, and a holds the smaller one?
-#[tactic(auto, unfolding(method::specs::Records::tickets_of))]
-fn goes_before(a: &Row, b: &Row) -> bool
-    ensures answer { result ≡ goesb a.now b.now }
-{
-    a.parts
-        .iter()
-        .map(|p| p.ticket.0)
-        .zip(b.parts.iter().map(|p| p.ticket.0))
-        .any(|(x, y)| 0 < x && x < y)
-}
+use method::{Row, State, Table};
 
 // Does a kept committed one have an arrow to it?
 #[tactic(auto, unfolding(method::specs::Conditions::has_pred, method::specs::Slots::kept))]
 pub fn has_pred(t: &Table, r: &Row) -> bool
     ensures answer { result ≡ has_pred t.now r.now }
 {
+    let tickets = records::tickets_of(r);
     t.rows
         .iter()
         .filter(|q| q.state == State::Committed)
-        .any(|q| goes_before(q, r))
+        .any(|q| orders::goes_before(&records::tickets_of(q), &tickets))
 }
 
 // Has an active one a number at or below the last recorded at its commit?

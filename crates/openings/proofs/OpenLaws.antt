@@ -5,16 +5,9 @@ use Prim.Native.Nat.{ℕ, zero, suc, ◌+◌, ◌<◌}
 use native.Mathlib.Omega.{arith}
 use native.Mathlib.Numerals.{add-one}
 use lib.ListN.{length, get_or, set, take}
-use borrow.Author.Tests.{eq-eqb, ne_eqb}
 use Rattle.method.specs.declared.Ticket.{Ticket}
-use Rattle.method.specs.declared.Table.{Table}
-use Rattle.method.specs.declared.Answer.{Answer}
-use Rattle.method.specs.Conditions.{bad_opening}
-use Rattle.method.specs.Calls.{checks}
-use Rattle.method.specs.Calls.Call.{open_with}
 use Rattle.method.specs.Records.{ticket}
-use Rattle.method.specs.Effects.{padded, opened, answered, effect, step}
-use Rattle.method.proofs.CheckLaws.{stopped, unstopped, first_true_lem, first_false}
+use Rattle.method.specs.Effects.{padded}
 
 next : (k : ℕ) (fs : List ℕ) (i : ℕ) → i < length fs → i < k → set (padded k (take i fs)) i (ticket (get_or fs i 0)) ≡ padded k (take (suc i) fs)
 unfolding padded

@@ -12,7 +12,7 @@ ghost use Rattle.method.specs.Effects.{raised as raisedTickets};
 use method::{Row, SITES, Stage, State, Ticket};
 
 // Is each of its sites prepared?
-#[tactic(auto, using(sites::proofs::SitesLaws::lt_of_first))]
+#[tactic(auto, using(sites::proofs::SitesLaws::first_lt))]
 fn are_prepared(row: &Row) -> bool
     ensures { result ≡ list_all (λ s. is_prepared (part_at row.now s).stage) (sites_of row.now.sites) }
 {
@@ -28,7 +28,7 @@ pub fn is_prepared(row: &Row) -> bool
 }
 
 // The highest tickets, raised at the row's sites to its own.
-#[tactic(auto, using(sites::proofs::SitesLaws::lt_of_first), unfolding(method::specs::Effects::raised))]
+#[tactic(auto, using(sites::proofs::SitesLaws::first_lt), unfolding(method::specs::Effects::raised))]
 pub fn raised(mut high: [Ticket; SITES], row: &Row) -> [Ticket; SITES]
     ensures answer { result ≡ raisedTickets row.now (sites_of row.now.sites) high }
 {
