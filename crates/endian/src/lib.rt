@@ -3,26 +3,14 @@
 #![tactic(auto)]
 
 ghost use Rattle.std.specs.Prelude.{◌≡◌, length, get_or};
-ghost use Rattle.endian.specs.Bytes.{be16, be32, words};
+ghost use Rattle.endian.specs.Bytes.{words};
 ghost use Rattle.endian.specs.Places.{word16, word32};
 ghost use Rattle.endian.specs.Laid.{has_room, stored};
 
 pub fn get8(s: &[u8], at: usize) -> u8
     ensures { result ≡ get_or s.now at 0 }
 {
-    if at < s.len() { s[at] } else { 0 }
-}
-
-fn join16(a: u8, b: u8) -> u16
-    ensures { result ≡ be16 a b }
-{
-    (a as u16) * 256 + (b as u16)
-}
-
-fn join32(a: u8, b: u8, c: u8, d: u8) -> u32
-    ensures { result ≡ be32 a b c d }
-{
-    (a as u32) * 16777216 + (b as u32) * 65536 + (c as u32) * 256 + (d as u32)
+    s.get(at).copied().unwrap_or(0)
 }
 
 pub fn get16(s: &[u8], at: usize) -> u16
@@ -30,7 +18,7 @@ pub fn get16(s: &[u8], at: usize) -> u16
 {
     // past the end `at + 1` might wrap
     if at < s.len() {
-        join16(s[at], get8(s, at + 1))
+        u16::from_be_bytes([s[at], get8(s, at + 1)])
     } else {
         0
     }
@@ -40,7 +28,7 @@ pub fn get32(s: &[u8], at: usize) -> u32
     ensures { result ≡ word32 s.now at }
 {
     if at < s.len() {
-        join32(s[at], get8(s, at + 1), get8(s, at + 2), get8(s, at + 3))
+        u32::from_be_bytes([s[at], get8(s, at + 1), get8(s, at + 2), get8(s, at + 3)])
     } else {
         0
     }
@@ -55,10 +43,9 @@ pub fn get_words(s: &[u8], out: &mut [u32]) -> bool
     if out.len() < n {
         return false;
     }
-    let mut i: usize = 0;
-    while i < n {
-        out[i] = get32(s, 4 * i);
-        i += 1;
+    let front = &mut out[..n];
+    for (i, slot) in front.iter_mut().enumerate() {
+        *slot = get32(s, 4 * i);
     }
     true
 }
@@ -69,16 +56,9 @@ pub fn put(out: &mut [u8], at: usize, bytes: &[u8]) -> bool
     ensures buffer { out.new ≡ stored out.old at bytes.now }
 {
     let n = bytes.len();
-    if out.len() < n {
+    if out.len() < n || out.len() - n < at {
         return false;
     }
-    if out.len() - n < at {
-        return false;
-    }
-    let mut i: usize = 0;
-    while i < n {
-        out[at + i] = bytes[i];
-        i += 1;
-    }
+    out[at..at + n].copy_from_slice(bytes);
     true
 }
