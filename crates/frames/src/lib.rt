@@ -5,35 +5,28 @@ ghost use Rattle.std.specs.Prelude.{◌≡◌};
 ghost use Rattle.frames.specs.Frame.{next_frame};
 ghost use Rattle.frames.specs.Answer.{frame_answer};
 
-// What stands in front of the bytes at hand.
-#[derive(Drop)]
-pub enum FrameAnswer {
-    // a whole message, which ends before `end`; its body is `&msg[3..end]`
-    Whole { end: usize },
-    NotYet,
-    // refusal 11
-    Bad,
-}
+use refusals::Refusal;
 
-pub fn read_frame(msg: &[u8]) -> FrameAnswer
+// Where the message in front of the bytes at hand ends: its body is `&msg[3..end]`. None where it is not yet whole.
+#[tactic(auto, unfolding(crate::specs::Frame::next_frame))]
+pub fn read_frame(msg: &[u8]) -> Result<Option<usize>, Refusal>
     ensures { result ≡ frame_answer (next_frame msg.now) }
 {
-    let n = msg.len();
-    if n == 0 {
-        return FrameAnswer::NotYet;
+    let Some(version) = msg.first() else {
+        return Ok(None);
+    };
+    if *version != 1 {
+        return Err(Refusal::BadFrame);
     }
-    if msg[0] != 1 {
-        return FrameAnswer::Bad;
+    if msg.len() < 3 {
+        return Ok(None);
     }
-    if n < 3 {
-        return FrameAnswer::NotYet;
-    }
-    let len = endian::get16(msg, 1) as usize;
+    let len = usize::from(endian::get16(msg, 1));
     if 160 < len {
-        return FrameAnswer::Bad;
+        return Err(Refusal::BadFrame);
     }
-    if n < 3 + len {
-        return FrameAnswer::NotYet;
+    if msg.len() < 3 + len {
+        return Ok(None);
     }
-    FrameAnswer::Whole { end: 3 + len }
+    Ok(Some(3 + len))
 }

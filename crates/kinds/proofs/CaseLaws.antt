@@ -1,24 +1,17 @@
 -- What a row of tests that gave an answer says of each of them, and a proof by cases below a bound. Assumes nothing.
-use mathlib.Core.Path.{◌≡◌, refl}
-use mathlib.Core.Bool.{Bool, true, false, cond, ◌&&◌}
-use mathlib.Core.Option.{Option, none, some, none-ne-some}
-use Prim.Native.Nat.{ℕ, zero, suc, ◌<◌, ◌≤◌}
-use native.Mathlib.Omega.{arith}
+use Rattle.std.proofs.Common.{◌≡◌, refl, Bool, true, false, cond, ◌&&◌, ℕ, zero, suc, ◌<◌, Option, None, Some, arith}
+use Rattle.std.proofs.lemmas.Option.{none-some}
 
 module _ {A : Type 0} where
   -- a test that would have refused did not hold
-  pub some_of_cond : (b : Bool) (x : Option A) (a : A) → cond b none x ≡ some a → (b ≡ false) × (x ≡ some a)
-  some_of_cond true x a e = absurd (none-ne-some a e)
+  pub some_of_cond : (b : Bool) (x : Option A) (a : A) → cond b None x ≡ Some a → (b ≡ false) × (x ≡ Some a)
+  some_of_cond true x a e = absurd (none-some a e)
   some_of_cond false x a e = (refl, e)
 
   -- a test that had to hold did
-  pub some_of_cond_true : (b : Bool) (x : Option A) (a : A) → cond b x none ≡ some a → (b ≡ true) × (x ≡ some a)
+  pub some_of_cond_true : (b : Bool) (x : Option A) (a : A) → cond b x None ≡ Some a → (b ≡ true) × (x ≡ Some a)
   some_of_cond_true true x a e = (refl, e)
-  some_of_cond_true false x a e = absurd (none-ne-some a e)
-
--- two constructors that are equal: `apart (cc)` closes a case that cannot be
-pub apart : {A : Type 0} → ◌≡◌ {A = ℕ} 0 1 → A
-apart e = absurd (omega arith)
+  some_of_cond_true false x a e = absurd (none-some a e)
 
 pub and_left : (a b : Bool) → a && b ≡ true → a ≡ true
 and_left true b e = refl
@@ -28,10 +21,6 @@ pub and_right : (a b : Bool) → a && b ≡ true → b ≡ true
 and_right true b e = e
 and_right false true e = refl
 and_right false false e = e
-
--- a number that is at least m and is not m
-pub above : {m k : ℕ} → m ≤ k → (k ≡ m → ⊥) → suc m ≤ k
-above h e = omega arith
 
 -- a proof for each number below n
 abbrev Each : (ℕ → Type 0) → ℕ → Type 0

@@ -1,4 +1,5 @@
 -- The lengths of bodies are those written out: for every kind and every length. Assumes nothing.
+use Rattle.std.proofs.Common.{is_some}
 use mathlib.Core.Path.{◌≡◌, refl, sym}
 use mathlib.Core.Bool.{Bool, true, false, beq}
 use mathlib.Core.List.{[]}
@@ -10,7 +11,7 @@ use borrow.Author.Tests.{ltb-true, ltb-false}
 use lib.Dec.{ltb}
 use lib.ListN.{get_or, get_or-eq_default}
 use Rattle.kinds.specs.Kinds.{entries_of}
-use Rattle.kinds.specs.Lengths.{lengths, listed, is_some, agrees, every_below}
+use Rattle.kinds.specs.Lengths.{lengths, listed, agrees, every_below}
 use Rattle.kinds.proofs.CaseLaws.{and_left, and_right}
 
 -- computed: the kinds of the table at every length from 0 to 161

@@ -1,3 +1,4 @@
 pub mod CaseLaws
+pub mod KnownLaws
 pub mod KindsLaws
 pub mod LengthLaws

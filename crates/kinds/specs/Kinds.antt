@@ -1,24 +1,29 @@
 -- How long a body of each kind is. RULES, Messages, as a table; src/lib.rt has the same table, and a later kind is a line in each.
-use Rattle.std.specs.Prelude.{◌≡◌, Bool, true, cond, not, ◌&&◌, List, [], ◌∷◌, ℕ, ◌+◌, ◌-◌, ◌*◌, ◌/◌, ◌%◌, ◌<◌, ◌≤◌, ltb, eqb, length, get_or}
-use Rattle.std.proofs.Math.Option.{Option, none, some}
+use Rattle.std.specs.Prelude.{◌≡◌, cond, not, List, [], ◌∷◌, ℕ, ◌+◌, ◌-◌, ◌*◌, ◌/◌, ◌%◌, ◌<◌, ◌≤◌, ltb, eqb, length, get_or, Option, Some, None, Result, MatchResult}
+use Rattle.refusals.specs.declared.Refusal.{Refusal}
+use Rattle.kinds.specs.declared.Kind.{Kind}
 use Rattle.kinds.specs.declared.Shape.{Shape}
-use Rattle.kinds.specs.declared.Count.{Count}
 
--- the bytes without the list; the bytes of each entry of the list, 1 where there is none; the fewest entries; the most
+-- the first byte of a body of each kind
+abbrev pub code_of : Kind → ℕ
+code_of Kind.Open = 0
+code_of Kind.Begin = 1
+code_of Kind.Ticket = 2
+code_of Kind.Prepared = 3
+code_of Kind.Abort = 4
+code_of Kind.Decide = 5
+code_of Kind.Forget = 6
+code_of Kind.Sweep = 7
+code_of Kind.Propose = 8
+code_of Kind.Order = 9
+
+-- the byte is that of the kind, or no kind has it: refusal 10
+abbrev pub Decodes : ℕ → Result Kind Refusal → Type 0
+Decodes code r = MatchResult r (λ kind. code_of kind ≡ code) (λ e. (e ≡ Refusal.BadBody) × (9 < code))
+
+-- the bytes without the list; the bytes of each entry of the list, 1 where there is None; the fewest entries; the most
 abbrev pub shape : ℕ → ℕ → ℕ → ℕ → Shape
-shape b s l m = record { 0 = b; 1 = s; 2 = l; 3 = m }
-
-abbrev pub base : Shape → ℕ
-base r = r.0
-
-abbrev pub step : Shape → ℕ
-step r = r.1
-
-abbrev pub least : Shape → ℕ
-least r = r.2
-
-abbrev pub most : Shape → ℕ
-most r = r.3
+shape b s l m = record { base = b; step = s; least = l; most = m }
 
 abbrev pub kinds : List Shape
 kinds =
@@ -38,31 +43,21 @@ kinds =
 abbrev pub row_of : ℕ → Shape
 row_of k = get_or kinds k (shape 0 0 0 0)
 
--- a test that is computed over the whole table
-abbrev pub every_row : (Shape → Bool) → List Shape → Bool
-every_row f [] = true
-every_row f (r ∷ l) = f r && every_row f l
-
 -- a body of kind k with n entries in its list is len bytes long
 pub record HasLength (k n len : ℕ) : Type 0 where
   pub known : k < length kinds
-  pub enough : least (row_of k) ≤ n
-  pub few : n ≤ most (row_of k)
-  pub bytes : len ≡ base (row_of k) + step (row_of k) * n
+  pub enough : (row_of k).least ≤ n
+  pub few : n ≤ (row_of k).most
+  pub bytes : len ≡ (row_of k).base + (row_of k).step * n
 
 -- the same as a test: how many entries a body of kind k has that is len bytes long, or that there is no such body
 abbrev pub entries_in : Shape → ℕ → Option ℕ
 entries_in r len =
-    cond (ltb len (base r)) none
-    (cond (not (eqb ((len - base r) % step r) 0)) none
-    (cond (ltb ((len - base r) / step r) (least r)) none
-    (cond (ltb (most r) ((len - base r) / step r)) none
-    (some ((len - base r) / step r)))))
+    cond (ltb len r.base) None
+    (cond (not (eqb ((len - r.base) % r.step) 0)) None
+    (cond (ltb ((len - r.base) / r.step) r.least) None
+    (cond (ltb r.most ((len - r.base) / r.step)) None
+    (Some ((len - r.base) / r.step)))))
 
 unfoldable pub entries_of : ℕ → ℕ → Option ℕ
-entries_of k len = cond (ltb k (length kinds)) (entries_in (row_of k) len) none
-
--- the code's answer
-abbrev pub count_of : Option ℕ → Count
-count_of none = Count.Wrong
-count_of (some n) = Count.Entries n
+entries_of k len = cond (ltb k (length kinds)) (entries_in (row_of k) len) None

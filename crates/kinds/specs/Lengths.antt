@@ -1,7 +1,6 @@
 -- The lengths of bodies written out, to compare the table of kinds with. proofs/LengthLaws.antt has them for every kind and every length.
-use Rattle.std.specs.Prelude.{Bool, true, false, ◌&&◌, ◌||◌, List, [], ◌∷◌, ℕ, zero, suc, eqb, get_or}
+use Rattle.std.specs.Prelude.{Bool, true, false, ◌&&◌, ◌||◌, List, [], ◌∷◌, ℕ, zero, suc, eqb, get_or, is_some}
 use Rattle.std.specs.Bool.{beq}
-use Rattle.std.proofs.Math.Option.{Option, none, some}
 use Rattle.kinds.specs.Kinds.{entries_of}
 
 -- the body lengths of each kind, written out
@@ -22,10 +21,6 @@ lengths =
 abbrev pub listed : ℕ → List ℕ → Bool
 listed n [] = false
 listed n (x ∷ l) = eqb n x || listed n l
-
-abbrev pub is_some : Option ℕ → Bool
-is_some none = false
-is_some (some n) = true
 
 -- at kind k and length n the test takes what is written out, and nothing else
 abbrev pub agrees : ℕ → ℕ → Bool

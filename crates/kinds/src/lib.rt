@@ -1,71 +1,118 @@
-// The lengths of bodies, kind by kind. The same table stands in specs/Kinds.antt, which says what its columns mean.
+// The kinds of messages, and how long a body of each is. The same table stands in specs/Kinds.antt, which says what its columns mean.
 #![tactic(auto)]
 
 ghost use Rattle.std.specs.Prelude.{◌≡◌, ◌<◌};
-ghost use Rattle.kinds.specs.Kinds.{row_of, entries_in, entries_of, count_of};
+ghost use Rattle.kinds.specs.Kinds.{code_of, Decodes, shape, row_of, entries_in, entries_of};
 
-// base, step, least, most
-#[derive(Drop)]
-pub struct Shape(pub usize, pub usize, pub usize, pub usize);
+use refusals::Refusal;
 
-// The table of kinds, a line for each. It is a match and not a constant array, which the compiler would lay down anew at each look.
-fn shape_of(kind: u8) -> Shape
-    ensures { result ≡ row_of kind }
-{
-    match kind {
-        0 => Shape(5, 4, 0, 38), // open: first number, floors
-        1 => Shape(2, 1, 0, 0), // begin: site list
-        2 => Shape(10, 1, 0, 0), // ticket: number, site, ticket
-        3 => Shape(6, 1, 0, 0), // prepared: number, site
-        4 => Shape(5, 1, 0, 0), // abort: number
-        5 => Shape(5, 1, 0, 0), // decide: number
-        6 => Shape(5, 1, 0, 0), // forget: number
-        7 => Shape(1, 1, 0, 0), // sweep
-        8 => Shape(1, 4, 0, 39), // propose: numbers
-        9 => Shape(1, 1, 0, 0), // order
-        _ => Shape(0, 0, 0, 0), // no kind: nothing reads it
+// What the first byte of a body says.
+#[derive(Clone, Copy, Debug, PartialEq, Eq)]
+pub enum Kind {
+    Open,
+    Begin,
+    Ticket,
+    Prepared,
+    Abort,
+    Decide,
+    Forget,
+    Sweep,
+    Propose,
+    Order,
+}
+
+impl TryFrom<u8> for Kind {
+    type Error = Refusal;
+
+    ghost try_from_gives = { Decodes };
+
+    fn try_from(code: u8) -> Result<Kind, Refusal> {
+        match code {
+            0 => Ok(Kind::Open),
+            1 => Ok(Kind::Begin),
+            2 => Ok(Kind::Ticket),
+            3 => Ok(Kind::Prepared),
+            4 => Ok(Kind::Abort),
+            5 => Ok(Kind::Decide),
+            6 => Ok(Kind::Forget),
+            7 => Ok(Kind::Sweep),
+            8 => Ok(Kind::Propose),
+            9 => Ok(Kind::Order),
+            _ => Err(Refusal::BadBody),
+        }
     }
 }
 
-// How many entries the list of a body has.
-#[derive(Drop)]
-pub enum Count {
-    Entries(usize),
-    Wrong,
+// The bytes without the list, the bytes of each entry of the list (1 where there is none), the fewest entries, the most.
+#[derive(Clone, Copy)]
+struct Shape {
+    base: usize,
+    step: usize,
+    least: usize,
+    most: usize,
 }
 
-// The entries of a body of this shape that is `len` bytes long, or that no such body is.
-fn entries_in(row: Shape, len: usize) -> Count
-    requires { 0 < row.1 }
-    ensures { result ≡ count_of (entries_in row len) }
-{
-    let base = row.0;
-    let step = row.1;
-    let least = row.2;
-    let most = row.3;
-    if len < base {
-        return Count::Wrong;
+impl Shape {
+    fn new(base: usize, step: usize, least: usize, most: usize) -> Shape
+        ensures { result ≡ shape base step least most }
+    {
+        Shape {
+            base,
+            step,
+            least,
+            most,
+        }
     }
-    let over = len - base;
-    if over % step != 0 {
-        return Count::Wrong;
+
+    // The entries of a body of this shape that is `len` bytes long; none where no such body is.
+    fn entries(self, len: usize) -> Option<usize>
+        requires { 0 < self.step }
+        ensures { result ≡ entries_in self len }
+    {
+        let over = len.checked_sub(self.base)?;
+        if over % self.step != 0 {
+            return None;
+        }
+        let n = over / self.step;
+        if n < self.least || self.most < n {
+            return None;
+        }
+        Some(n)
     }
-    let n = over / step;
-    if n < least {
-        return Count::Wrong;
-    }
-    if most < n {
-        return Count::Wrong;
-    }
-    Count::Entries(n)
 }
 
-pub fn entries(kind: u8, len: usize) -> Count
-    ensures { result ≡ count_of (entries_of kind len) }
-{
-    if 10 <= kind {
-        return Count::Wrong;
+impl Kind {
+    // The table of kinds, a line for each. It is a match and not a constant array, which the compiler would lay down anew at each look.
+    fn shape(self) -> Shape
+        ensures { result ≡ row_of (code_of self) }
+    {
+        match self {
+            Kind::Open => Shape::new(5, 4, 0, 38), // first number, floors
+            Kind::Begin => Shape::new(2, 1, 0, 0), // site list
+            Kind::Ticket => Shape::new(10, 1, 0, 0), // number, site, ticket
+            Kind::Prepared => Shape::new(6, 1, 0, 0), // number, site
+            Kind::Abort => Shape::new(5, 1, 0, 0), // number
+            Kind::Decide => Shape::new(5, 1, 0, 0), // number
+            Kind::Forget => Shape::new(5, 1, 0, 0), // number
+            Kind::Sweep => Shape::new(1, 1, 0, 0),
+            Kind::Propose => Shape::new(1, 4, 0, 39), // numbers
+            Kind::Order => Shape::new(1, 1, 0, 0),
+        }
     }
-    let row = shape_of(kind);
-    entries_in(row, len)
+
+    // How many entries the list of a body of this kind has that is `len` bytes long; none where no such body is.
+    #[tactic(auto, using(crate::proofs::KnownLaws::known), unfolding(crate::specs::Kinds::entries_of))]
+    pub fn entries(self, len: usize) -> Option<usize>
+        ensures { result ≡ entries_of (code_of self) len }
+    {
+        self.shape().entries(len)
+    }
+}
+
+// The same of the kind that a byte says.
+#[tactic(auto, unfolding(crate::specs::Kinds::entries_of))]
+pub fn entries(kind: u8, len: usize) -> Option<usize>
+    ensures { result ≡ entries_of kind len }
+{
+    Kind::try_from(kind).ok()?.entries(len)
 }

@@ -9,7 +9,7 @@ use Rattle.graph.specs.Lists.{◌∈◌}
 use Rattle.orders.specs.Entries.{entries_in}
 use Rattle.orders.specs.Good.{GoodRows}
 use Rattle.orders.specs.Order.{InOrder}
-use mathlib.Core.Option.{Option, none, some}
+use Rattle.std.proofs.Common.{Option, Some, None}
 use Rattle.wire.specs.Message.{Message}
 use Rattle.wire.specs.Body.{message_of}
 use Rattle.frames.specs.Stream.{Stream, ended, cut_off, framed}
@@ -35,8 +35,8 @@ desk_run r b = go (message_of b)
     reply wants_order = (r, refl)
 
     go : (o : Option Message) → (q : Run) × ((desk_read (after r) o).0 ≡ after q)
-    go none = (r, refl)
-    go (some m) = reply (asks_for m)
+    go None = (r, refl)
+    go (Some m) = reply (asks_for m)
 
 module _ (r : Run) where
   pub run_good : GoodRows (kept_flat (after r))

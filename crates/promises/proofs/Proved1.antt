@@ -2,7 +2,10 @@
 use mathlib.Core.Path.{◌≡◌, refl, sym, ap, ◌∙◌}
 use mathlib.Core.List.{List, [], ◌∷◌, ◌++◌}
 use mathlib.Core.Logic.{◌↔◌, ◌⊎◌, inl, inr}
-use mathlib.Core.Option.{some, none-ne-some, some-injective}
+use Rattle.std.proofs.Common.{Some, Result, Ok, Err}
+use Rattle.std.proofs.lemmas.Option.{none-some, same_Some}
+use Rattle.refusals.specs.declared.Refusal.{Refusal}
+use Rattle.refusals.specs.Numbers.{told_by}
 use Prim.Native.Nat.{ℕ, ◌+◌, ◌≤◌}
 use lib.ListN.{length, take, drop}
 use lib.Seq.{take_at}
@@ -11,7 +14,6 @@ use Rattle.endian.specs.Laid.{laid}
 use Rattle.orders.specs.Reply.{Reply}
 use Rattle.orders.specs.Write.{Written, Written.bad, Written.no_room, Written.no_order, Written.written}
 use Rattle.orders.proofs.WriteLaws.{write_result_lem}
-use Rattle.sending.specs.declared.WriteAnswer.{WriteAnswer}
 use Rattle.wire.specs.Message.{Message, opening, beginning, ticketing, preparing, aborting, deciding, forgetting, sweeping, proposing, ordering}
 use Rattle.frames.specs.Frame.{Next, nothing, cut, bad, whole, frame_of, next_frame, Means, Bad, Cut}
 use Rattle.frames.specs.Stream.{stream_of}
@@ -20,7 +22,7 @@ use Rattle.wire.specs.Body.{message_of}
 use Rattle.wire.specs.Answers.{body_answer, read_answer}
 use Rattle.frames.specs.Answer.{frame_answer, FrameMeans}
 use Rattle.wire.specs.Meaning.{BodyMeans, ReadMeans}
-use Rattle.sending.specs.Meaning.{WriteMeans, write_refusal}
+use Rattle.sending.specs.Meaning.{WriteMeans}
 use Rattle.wire.proofs.BodyLaws.{message_of_body}
 use Rattle.frames.proofs.FrameLaws.{means_next, next_of_means}
 use Rattle.frames.proofs.StreamLaws.{stream_of_nothing, stream_of_cut, stream_of_bad, stream_of_whole}
@@ -56,11 +58,9 @@ order_keeps flat place out r after (no_room e f g i) k h = f
 order_keeps flat place out r after (no_order e f g i j) k h = f
 order_keeps flat place out r after (written o e f g i j l) k h = never (cc)
 
-message_keeps : (b out : List ℕ) (place : ℕ) (r : WriteAnswer) (k : ℕ) → write_refusal r ≡ some k → left_by r b out place ≡ out
-message_keeps b out place (WriteAnswer.Written n) k e = absurd (none-ne-some k e)
-message_keeps b out place WriteAnswer.TooLong k e = refl
-message_keeps b out place WriteAnswer.Wrong k e = refl
-message_keeps b out place WriteAnswer.NoRoom k e = refl
+message_keeps : (b out : List ℕ) (place : ℕ) (r : Result ℕ Refusal) (k : ℕ) → told_by r ≡ Some k → left_by r b out place ≡ out
+message_keeps b out place (Ok n) k e = absurd (none-some k e)
+message_keeps b out place (Err q) k e = refl
 
 pub refused_keeps : RefusedKeeps
 refused_keeps = record {
@@ -89,17 +89,17 @@ refused_exactly = record {
   four = four_of_open;
 }
 
-asks_of_call : (m : Message) (c : Call) → call_of m ≡ some c → asks_for m ≡ calls c
-asks_of_call (opening n fs) c e = ap {B = Asks} calls (some-injective (open_with n fs) c e)
-asks_of_call (beginning s) c e = ap {B = Asks} calls (some-injective (begin s) c e)
-asks_of_call (ticketing n s k) c e = ap {B = Asks} calls (some-injective (report_ticket n s k) c e)
-asks_of_call (preparing n s) c e = ap {B = Asks} calls (some-injective (report_prepared n s) c e)
-asks_of_call (aborting n) c e = ap {B = Asks} calls (some-injective (abort n) c e)
-asks_of_call (deciding n) c e = ap {B = Asks} calls (some-injective (decide n) c e)
-asks_of_call (forgetting n) c e = ap {B = Asks} calls (some-injective (forget n) c e)
-asks_of_call sweeping c e = ap {B = Asks} calls (some-injective sweep c e)
-asks_of_call (proposing ns) c e = absurd (none-ne-some c e)
-asks_of_call ordering c e = absurd (none-ne-some c e)
+asks_of_call : (m : Message) (c : Call) → call_of m ≡ Some c → asks_for m ≡ calls c
+asks_of_call (opening n fs) c e = ap {B = Asks} calls (same_Some (open_with n fs) c e)
+asks_of_call (beginning s) c e = ap {B = Asks} calls (same_Some (begin s) c e)
+asks_of_call (ticketing n s k) c e = ap {B = Asks} calls (same_Some (report_ticket n s k) c e)
+asks_of_call (preparing n s) c e = ap {B = Asks} calls (same_Some (report_prepared n s) c e)
+asks_of_call (aborting n) c e = ap {B = Asks} calls (same_Some (abort n) c e)
+asks_of_call (deciding n) c e = ap {B = Asks} calls (same_Some (decide n) c e)
+asks_of_call (forgetting n) c e = ap {B = Asks} calls (same_Some (forget n) c e)
+asks_of_call sweeping c e = ap {B = Asks} calls (same_Some sweep c e)
+asks_of_call (proposing ns) c e = absurd (none-some c e)
+asks_of_call ordering c e = absurd (none-some c e)
 
 pub serves : Serves
 unfolding desk

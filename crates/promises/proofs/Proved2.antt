@@ -10,7 +10,8 @@ use Rattle.graph.proofs.TestLaws.{true_or_false, true_not_false}
 use Rattle.graph.specs.Reached.{Reached}
 use Rattle.sites.specs.Sites.{sites_of}
 use Rattle.sites.proofs.SitesLaws.{rising_sites, lt_of_member}
-use Rattle.sending.specs.declared.WriteAnswer.{WriteAnswer}
+use Rattle.std.proofs.Common.{Result, Ok, Err}
+use Rattle.refusals.specs.declared.Refusal.{Refusal}
 use Rattle.wire.specs.Message.{body_of}
 use Rattle.frames.specs.Frame.{Next, frame_of}
 use Rattle.sending.specs.Meaning.{WriteMeans}
@@ -151,11 +152,9 @@ sweeps_exactly = record {
   none = λ r nc. rw (swept_is (after r) nc) (none_to_forget (after r));
 }
 
-written_is : (b out : List ℕ) (place n : ℕ) (r : WriteAnswer) → WriteMeans b out place r → r ≡ WriteAnswer.Written n → left_by r b out place ≡ take place out ++ (frame_of b ++ drop (place + n) out)
-written_is b out place n (WriteAnswer.Written k) m e = let f : k ≡ n = cc in rw (sym f, m.2)
-written_is b out place n WriteAnswer.TooLong m e = never (cc)
-written_is b out place n WriteAnswer.Wrong m e = never (cc)
-written_is b out place n WriteAnswer.NoRoom m e = never (cc)
+written_is : (b out : List ℕ) (place n : ℕ) (r : Result ℕ Refusal) → WriteMeans b out place r → r ≡ Ok n → left_by r b out place ≡ take place out ++ (frame_of b ++ drop (place + n) out)
+written_is b out place n (Ok k) m e = let f : k ≡ n = cc in rw (sym f, m.2)
+written_is b out place n (Err q) m e = never (cc)
 
 pub message_bytes : MessageBytes
 message_bytes = record {

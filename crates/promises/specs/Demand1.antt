@@ -1,21 +1,21 @@
 -- Demand 1: every message and call, however malformed or out of turn, gets its one listed answer, and a refused call leaves the table and
 -- all lent memory as before. proofs/Proved1.antt has a proof of each.
-use Rattle.std.specs.Prelude.{◌≡◌, Bool, true, false, cond, List, [], ◌∷◌, ◌++◌, ◌↔◌, ◌≢◌, ◌⊎◌, ℕ, ◌+◌, ◌-◌, ◌<◌, ◌≤◌, length, take, drop, Result}
+use Rattle.std.specs.Prelude.{◌≡◌, Bool, true, false, cond, List, [], ◌∷◌, ◌++◌, ◌↔◌, ◌≢◌, ◌⊎◌, ℕ, ◌+◌, ◌-◌, ◌<◌, ◌≤◌, length, take, drop, Result, Option, Some, None}
 use Rattle.std.proofs.Math.Option.{Option, none, some}
 use Rattle.endian.specs.Places.{Below}
 use Rattle.graph.specs.Lists.{◌∈◌}
 use Rattle.refusals.specs.declared.Refusal.{Refusal}
 use Rattle.orders.specs.Reply.{Reply, write_reply}
-use Rattle.wire.specs.declared.reader.BodyAnswer.{BodyAnswer}
-use Rattle.frames.specs.declared.FrameAnswer.{FrameAnswer}
-use Rattle.wire.specs.declared.reader.ReadAnswer.{ReadAnswer}
-use Rattle.sending.specs.declared.WriteAnswer as messages
+use Rattle.wire.specs.declared.reader.Request.{Request}
+use Rattle.refusals.specs.declared.Refusal.{Refusal}
+use Rattle.refusals.specs.Numbers.{told_by}
+use Rattle.wire.specs.declared.reader.Message as reader
 use Rattle.wire.specs.Message.{Message, InRange, body_of, opening, beginning, ticketing, preparing, aborting, deciding, forgetting, sweeping, proposing, ordering}
 use Rattle.frames.specs.Frame.{frame_of, Bad, Cut}
 use Rattle.frames.specs.Stream.{stream_of}
 use Rattle.wire.specs.Meaning.{NoBody, BodyMeans, ReadMeans}
 use Rattle.frames.specs.Answer.{FrameMeans}
-use Rattle.sending.specs.Meaning.{WriteMeans, write_refusal}
+use Rattle.sending.specs.Meaning.{WriteMeans}
 use Rattle.lines.specs.Line.{Line, line_bytes, refused_line}
 use Rattle.lines.specs.Reading.{OneLine, output_bytes}
 use Rattle.method.specs.declared.Answer.{Answer}
@@ -63,7 +63,7 @@ Answered = (t : Table) (c : Call) (a : Answer) (u : Table) → CallGives t c a u
 pub record RefusedKeeps : Type 0 where
   pub calls : (t : Table) (c : Call) (a : Answer) (u : Table) → CallGives t c a u → (k : ℕ) → a ≡ Answer.Refused k → u ≡ t
   pub orders : (flat : List ℕ) (place : ℕ) (out : List ℕ) (r : Result ℕ Refusal) (after : List ℕ) → WriteGives flat place out r after → (k : ℕ) → write_reply r ≡ Reply.refused k → after ≡ out
-  pub messages : (b out : List ℕ) (place : ℕ) (r : messages.WriteAnswer) (after : List ℕ) → MessageGives b out place r after → (k : ℕ) → write_refusal r ≡ some k → after ≡ out
+  pub messages : (b out : List ℕ) (place : ℕ) (r : Result ℕ Refusal) (after : List ℕ) → MessageGives b out place r after → (k : ℕ) → told_by r ≡ Some k → after ≡ out
   -- where the longest line would not fit nothing is served
   pub roomless : (t : Table) (b out : List ℕ) (place : ℕ) (r : Served) (after : List ℕ) → ServeGives t b out place r after → length out < place + 358
       → (r.table ≡ t) × (r.count ≡ 0) × (after ≡ out)
@@ -78,11 +78,11 @@ pub record RefusedExactly : Type 0 where
   pub unknown : (r : Run) (n : ℕ) → Unknown (after r) n ↔ ((¬ BegunIn r n) ⊎ Over r n)
   pub used_up : (r : Run) (first : ℕ) (floors : List ℕ) → Happened (Opens first floors) r → UsedUp (after r) ↔ (first - 1 + begins r ≡ 4294967295)
   -- the reader and the writer of messages: an answer is given exactly if it fits, and each says what it means
-  pub bodies : (b : List ℕ) (r : BodyAnswer) → Below 256 b → BodyGives b r → (x : BodyAnswer) → (x ≡ r) ↔ BodyMeans b x
-  pub frames : (l : List ℕ) (r : FrameAnswer) → FrameGives l r → (x : FrameAnswer) → (x ≡ r) ↔ FrameMeans l x
-  pub reads : (l : List ℕ) (r : ReadAnswer) → Below 256 l → ReadGives l r → (x : ReadAnswer) → (x ≡ r) ↔ ReadMeans l x
-  pub writes : (b out : List ℕ) (place : ℕ) (r : messages.WriteAnswer) (after : List ℕ) → Below 256 b → MessageGives b out place r after
-      → (x : messages.WriteAnswer) → (x ≡ r) ↔ WriteMeans b out place x
+  pub bodies : (b : List ℕ) (r : Result Request Refusal) → Below 256 b → BodyGives b r → (x : Result Request Refusal) → (x ≡ r) ↔ BodyMeans b x
+  pub frames : (l : List ℕ) (r : Result (Option ℕ) Refusal) → FrameGives l r → (x : Result (Option ℕ) Refusal) → (x ≡ r) ↔ FrameMeans l x
+  pub reads : (l : List ℕ) (r : Result (Option reader.Message) Refusal) → Below 256 l → ReadGives l r → (x : Result (Option reader.Message) Refusal) → (x ≡ r) ↔ ReadMeans l x
+  pub writes : (b out : List ℕ) (place : ℕ) (r : Result ℕ Refusal) (after : List ℕ) → Below 256 b → MessageGives b out place r after
+      → (x : Result ℕ Refusal) → (x ≡ r) ↔ WriteMeans b out place x
   -- a body at the service: 10 exactly if it is no message's, then 1 before a good opening, and 4 for an opening after one
   pub ten : (t : method.Table) (b : List ℕ) → Below 256 b → ((desk_body t b).1 ≡ refused_line 10) ↔ NoBody b
   pub one : (t : method.Table) (m : Message) → InRange m → ((n : ℕ) (fs : List ℕ) → m ≢ opening n fs) → Closed t → desk_body t (body_of m) ≡ (t, refused_line 1)
@@ -90,20 +90,20 @@ pub record RefusedExactly : Type 0 where
 
 -- each message is one call, but for the two on orders, of which Demand3 speaks
 abbrev pub call_of : Message → Option Call
-call_of (opening n fs) = some (open_with n fs)
-call_of (beginning s) = some (begin s)
-call_of (ticketing n s k) = some (report_ticket n s k)
-call_of (preparing n s) = some (report_prepared n s)
-call_of (aborting n) = some (abort n)
-call_of (deciding n) = some (decide n)
-call_of (forgetting n) = some (forget n)
-call_of sweeping = some sweep
-call_of (proposing ns) = none
-call_of ordering = none
+call_of (opening n fs) = Some (open_with n fs)
+call_of (beginning s) = Some (begin s)
+call_of (ticketing n s k) = Some (report_ticket n s k)
+call_of (preparing n s) = Some (report_prepared n s)
+call_of (aborting n) = Some (abort n)
+call_of (deciding n) = Some (decide n)
+call_of (forgetting n) = Some (forget n)
+call_of sweeping = Some sweep
+call_of (proposing ns) = None
+call_of ordering = None
 
 -- its body leaves the table that the call leaves, and its line says the call's answer
 abbrev pub Serves : Type 0
-Serves = (t : method.Table) (m : Message) (c : Call) → InRange m → call_of m ≡ some c → desk_body t (body_of m) ≡ ((step t c).table, answer_line (step t c).answer)
+Serves = (t : method.Table) (m : Message) (c : Call) → InRange m → call_of m ≡ Some c → desk_body t (body_of m) ≡ ((step t c).table, answer_line (step t c).answer)
 
 -- the lines that the service writes for all that it reads, from a table on
 abbrev pub lines_for : method.Table → List ℕ → List Line

@@ -1,6 +1,6 @@
 -- Demand 2: the table follows the published method step by step. proofs/Proved2.antt has a proof of each.
 use Rattle.std.specs.Prelude.{◌≡◌, List, ◌∷◌, ◌++◌, ◌↔◌, ◌≢◌, ◌⊎◌, ℕ, ◌+◌, ◌≤◌, max, length, take, drop}
-use Rattle.std.proofs.Math.Option.{some}
+use Rattle.std.specs.Prelude.{Option, Some, Result, Ok}
 use Rattle.graph.specs.Lists.{◌∈◌}
 use Rattle.graph.specs.Path.{Cycle}
 use Rattle.graph.specs.Reached.{Reached}
@@ -20,8 +20,8 @@ use Rattle.runs.specs.Follows.{Follows}
 use Rattle.runs.specs.Placed.{Placed}
 use Rattle.runs.specs.Sweeps.{free_slots, ForgetAll, NoneToForget}
 use Rattle.wire.specs.Message.{Message, InRange, body_of}
-use Rattle.wire.specs.declared.reader.ReadAnswer.{ReadAnswer}
-use Rattle.sending.specs.declared.WriteAnswer.{WriteAnswer}
+use Rattle.wire.specs.declared.reader.Message as reader
+use Rattle.refusals.specs.declared.Refusal.{Refusal}
 use Rattle.wire.specs.Answers.{request_of}
 use Rattle.wire.specs.Body.{message_of}
 use Rattle.frames.specs.Frame.{Next, frame_of, next_frame}
@@ -113,14 +113,14 @@ pub record SweepsExactly : Type 0 where
 -- message and bytes determine each other
 pub record MessageBytes : Type 0 where
   -- a message in range is read from its body, and what is read from a list of bytes has that body
-  pub read : (m : Message) → InRange m → message_of (body_of m) ≡ some m
-  pub made : (b : List ℕ) → Below 256 b → (m : Message) → message_of b ≡ some m → (body_of m ≡ b) × InRange m
+  pub read : (m : Message) → InRange m → message_of (body_of m) ≡ Some m
+  pub made : (b : List ℕ) → Below 256 b → (m : Message) → message_of b ≡ Some m → (body_of m ≡ b) × InRange m
   -- the same of frames, whatever stands behind
   pub frame : (b r : List ℕ) → length b ≤ 160 → next_frame (frame_of b ++ r) ≡ Next.whole b r
   pub framed : (l b r : List ℕ) → next_frame l ≡ Next.whole b r → (l ≡ frame_of b ++ r) × (length b ≤ 160)
   -- what our writer writes is the frame, with every other byte as it was, and our reader reads it as the message
-  pub written : (m : Message) (out : List ℕ) (place n : ℕ) (after : List ℕ) → InRange m → MessageGives (body_of m) out place (WriteAnswer.Written n) after
-      → (after ≡ take place out ++ (frame_of (body_of m) ++ drop (place + n) out)) × ((x : ReadAnswer) → ReadGives (drop place after) x → x ≡ ReadAnswer.Message (request_of m) n)
+  pub written : (m : Message) (out : List ℕ) (place n : ℕ) (after : List ℕ) → InRange m → MessageGives (body_of m) out place (Ok n) after
+      → (after ≡ take place out ++ (frame_of (body_of m) ++ drop (place + n) out)) × ((x : Result (Option reader.Message) Refusal) → ReadGives (drop place after) x → x ≡ Ok (Some (record { request = Ok (request_of m); end = n })))
   -- every list of bytes is in one way, and one only, frames and then an end, a cut or an 11
   pub parsed : (l : List ℕ) → (bytes_of (stream_of l) ≡ l) × WellFormed (stream_of l)
   pub once : (s t : Stream) → WellFormed s → WellFormed t → bytes_of s ≡ bytes_of t → s ≡ t

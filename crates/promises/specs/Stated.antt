@@ -9,10 +9,9 @@ use Rattle.orders.specs.Reply.{check_reply, write_reply}
 use Rattle.orders.specs.Order.{check_result}
 use Rattle.orders.specs.Write.{write_result}
 use Rattle.orders.specs.CCall.{call_result}
-use Rattle.wire.specs.declared.reader.BodyAnswer.{BodyAnswer}
-use Rattle.frames.specs.declared.FrameAnswer.{FrameAnswer}
-use Rattle.wire.specs.declared.reader.ReadAnswer.{ReadAnswer}
-use Rattle.sending.specs.declared.WriteAnswer as messages
+use Rattle.wire.specs.declared.reader.Request.{Request}
+use Rattle.refusals.specs.declared.Refusal.{Refusal}
+use Rattle.wire.specs.declared.reader.Message as reader
 use Rattle.wire.specs.Body.{message_of}
 use Rattle.frames.specs.Frame.{next_frame}
 use Rattle.frames.specs.Stream.{stream_of}
@@ -49,17 +48,17 @@ abbrev pub WriteGives : List ℕ → ℕ → List ℕ → Result ℕ Refusal →
 WriteGives flat place out r after = (write_reply r ≡ (write_result flat place out).0) × (after ≡ (write_result flat place out).1)
 
 -- wire::reader::read_body(body), frames::read_frame(msg), wire::reader::read_message(msg)
-abbrev pub BodyGives : List ℕ → BodyAnswer → Type 0
+abbrev pub BodyGives : List ℕ → Result Request Refusal → Type 0
 BodyGives b r = r ≡ body_answer (message_of b)
 
-abbrev pub FrameGives : List ℕ → FrameAnswer → Type 0
+abbrev pub FrameGives : List ℕ → Result (Option ℕ) Refusal → Type 0
 FrameGives l r = r ≡ frame_answer (next_frame l)
 
-abbrev pub ReadGives : List ℕ → ReadAnswer → Type 0
+abbrev pub ReadGives : List ℕ → Result (Option reader.Message) Refusal → Type 0
 ReadGives l r = r ≡ read_answer (next_frame l)
 
 -- sending::write_message(body, out, place)
-abbrev pub MessageGives : List ℕ → List ℕ → ℕ → messages.WriteAnswer → List ℕ → Type 0
+abbrev pub MessageGives : List ℕ → List ℕ → ℕ → Result ℕ Refusal → List ℕ → Type 0
 MessageGives b out place r after = (r ≡ write_answer b out place) × (after ≡ written b out place)
 
 -- lines::write_line(words, out, place) and write_order(numbers, out, place)

@@ -25,7 +25,7 @@ pub record Unique : Type 0 where
   pub calls : (t : Table) (c : Call) (a b : Answer) (u v : Table) → CallGives t c a u → CallGives t c b v → (a ≡ b) × (u ≡ v)
   -- the answer, and what the lent buffer holds
   pub write : (flat : List ℕ) (place : ℕ) (out : List ℕ) (a b : Result ℕ Refusal) (k l : List ℕ) → WriteGives flat place out a k → WriteGives flat place out b l → (a ≡ b) × (k ≡ l)
-  pub message : (body out : List ℕ) (place : ℕ) (a b : messages.WriteAnswer) (k l : List ℕ) → MessageGives body out place a k → MessageGives body out place b l → (a ≡ b) × (k ≡ l)
+  pub message : (body out : List ℕ) (place : ℕ) (a b : Result ℕ Refusal) (k l : List ℕ) → MessageGives body out place a k → MessageGives body out place b l → (a ≡ b) × (k ≡ l)
   pub line : (w : Words) (out : List ℕ) (place : ℕ) (a b : Option ℕ) (k l : List ℕ) → LineGives w out place a k → LineGives w out place b l → (a ≡ b) × (k ≡ l)
   pub order : (numbers out : List ℕ) (place : ℕ) (a b : Option ℕ) (k l : List ℕ) → OrderGives numbers out place a k → OrderGives numbers out place b l → (a ≡ b) × (k ≡ l)
   pub reply : (t : Table) (body : List ℕ) (a b : Replied) → ReplyGives t body a → ReplyGives t body b → a ≡ b

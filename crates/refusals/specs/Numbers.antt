@@ -1,5 +1,5 @@
 -- The number that RULES, Refusals, gives each refusal. proofs/NumberLaws.antt shows that no two share one.
-use Rattle.std.specs.Prelude.{ℕ, List, [], ◌∷◌}
+use Rattle.std.specs.Prelude.{ℕ, List, [], ◌∷◌, Option, Some, None, Result, Ok, Err}
 use Rattle.refusals.specs.declared.Refusal.{Refusal}
 
 abbrev pub number_of : Refusal → ℕ
@@ -22,3 +22,8 @@ number_of Refusal.NoRoom = 14
 abbrev pub refusals : List Refusal
 refusals = Refusal.NotOpen ∷ Refusal.Unknown ∷ Refusal.BadSite ∷ Refusal.OutOfTurn ∷ Refusal.NotAbove ∷ Refusal.Taken ∷ Refusal.Full
     ∷ Refusal.UsedUp ∷ Refusal.TooEarly ∷ Refusal.BadBody ∷ Refusal.BadFrame ∷ Refusal.NoOrder ∷ Refusal.BadRows ∷ Refusal.NoRoom ∷ []
+
+-- the number that an answer tells, where it is a refusal
+abbrev pub told_by : {A : Type 0} → Result A Refusal → Option ℕ
+told_by (Ok x) = None
+told_by (Err r) = Some (number_of r)

@@ -1,7 +1,8 @@
 -- What a request that was read off a body says of it: what the desk owes it, and where its list stands. Assumes nothing.
 use mathlib.Core.Path.{◌≡◌, refl, sym, ap, ◌∙◌}
 use mathlib.Core.List.{List}
-use mathlib.Core.Option.{some, map-eq-some_iff}
+use Rattle.std.proofs.Common.{Option, Some, None, Result, Ok, Err}
+use Rattle.refusals.specs.declared.Refusal.{Refusal}
 use Prim.Native.Nat.{ℕ, ◌<◌, ◌≤◌}
 use native.Mathlib.Omega.{arith}
 use lib.ListN.{length, get_or, drop, length-drop}
@@ -16,26 +17,26 @@ use Rattle.table.specs.declared.Table.{Table}
 use Rattle.table.specs.Shut.{shut_table, answer_to, table_after}
 use Rattle.wire.specs.declared.reader.Request.{Request}
 use Rattle.wire.specs.declared.reader.Request.TheVariants.{Opening, Beginning, Ticketing, Preparing, Aborting, Deciding, Forgetting, Sweeping, Proposing, Ordering}
-use Rattle.wire.specs.declared.reader.BodyAnswer.{BodyAnswer}
 use Rattle.wire.specs.Message.{Message, opening, beginning, ticketing, preparing, aborting, deciding, forgetting, sweeping, proposing, ordering}
-use Rattle.kinds.specs.Kinds.{base, row_of, entries_of}
+use Rattle.kinds.specs.Kinds.{row_of}
 use Rattle.wire.specs.Body.{message_at, message_of}
-use Rattle.wire.specs.Answers.{message_with, body_answer}
+use Rattle.wire.specs.Answers.{request_of, message_with, body_answer}
 use Rattle.kinds.proofs.CaseLaws.{by_kind}
 use Rattle.kinds.proofs.KindsLaws.{length_of_entries, length_le_of_entries}
+use Rattle.wire.proofs.BodyLaws.{entries_of_message}
 use Rattle.wire.proofs.RequestLaws.{message_of_request}
 use Rattle.replies.specs.declared.asked.Asked.{Asked}
 use Rattle.replies.specs.Desk.{answer_line, told, desk, desk_body}
 use Rattle.replies.specs.Asked.{sort_of, asked_of}
 
 -- the answer of the reader, from the sort that it was given
-abbrev unsorted : Asked → BodyAnswer
-unsorted Asked.Nothing = BodyAnswer.Wrong
-unsorted (Asked.Call q) = BodyAnswer.Request q
-unsorted (Asked.Proposal c) = BodyAnswer.Request (Proposing c)
-unsorted Asked.Order = BodyAnswer.Request Ordering
+abbrev unsorted : Asked → Result Request Refusal
+unsorted Asked.Nothing = Err Refusal.BadBody
+unsorted (Asked.Call q) = Ok q
+unsorted (Asked.Proposal c) = Ok (Proposing c)
+unsorted Asked.Order = Ok Ordering
 
-sort_back : (q : Request) → unsorted (sort_of q) ≡ BodyAnswer.Request q
+sort_back : (q : Request) → unsorted (sort_of q) ≡ Ok q
 sort_back (Opening n c) = refl
 sort_back (Beginning s) = refl
 sort_back (Ticketing n s k) = refl
@@ -47,9 +48,9 @@ sort_back Sweeping = refl
 sort_back (Proposing c) = refl
 sort_back Ordering = refl
 
-back : (a : BodyAnswer) → unsorted (asked_of a) ≡ a
-back (BodyAnswer.Request q) = sort_back q
-back BodyAnswer.Wrong = refl
+back : (o : Option Message) → unsorted (asked_of (body_answer o)) ≡ body_answer o
+back None = refl
+back (Some m) = sort_back (request_of m)
 
 -- the kind of a message
 abbrev kind_of : Message → ℕ
@@ -69,18 +70,18 @@ module _ (b : List ℕ) where
   unfolding message_at
   kind_at = by_kind (λ k. kind_of (message_at k b) ≡ k) refl refl refl refl refl refl refl refl refl refl
 
-  long_enough : (m : Message) → message_of b ≡ some m → (base (row_of (kind_of m)) ≤ length b) × (length b ≤ 160)
+  long_enough : (m : Message) → message_of b ≡ Some m → ((row_of (kind_of m)).base ≤ length b) × (length b ≤ 160)
   long_enough m e =
       let k = get_or b 0 0 in
-      let (n, c, a) = (map-eq-some_iff (λ (n : ℕ). message_at k b) (entries_of k (length b))).0 e in
+      let (n, c, a) = entries_of_message b m e in
       let h = length_of_entries k (length b) n c in
       let i : kind_of m ≡ k = rw (← a) (kind_at k h.known) in
       (rw i (omega (arith, h.bytes)), length_le_of_entries k (length b) n c)
 
   read_of_asked : (x : Asked) → asked_of (body_answer (message_of b)) ≡ x → body_answer (message_of b) ≡ unsorted x
-  read_of_asked x e = sym (back (body_answer (message_of b))) ∙ ap unsorted e
+  read_of_asked x e = sym (back (message_of b)) ∙ ap unsorted e
 
-  pub request_of_call : (q : Request) → asked_of (body_answer (message_of b)) ≡ Asked.Call q → body_answer (message_of b) ≡ BodyAnswer.Request q
+  pub request_of_call : (q : Request) → asked_of (body_answer (message_of b)) ≡ Asked.Call q → body_answer (message_of b) ≡ Ok q
   request_of_call q = read_of_asked (Asked.Call q)
 
   -- a proposal and a request for an order are no calls
@@ -94,20 +95,20 @@ module _ (b : List ℕ) where
     pub not_order : q ≡ Ordering → ⊥
     not_order e = let f : Asked.Order ≡ Asked.Call q = sym (ap sort_of e) ∙ sorted in never (cc)
 
-  pub wrong_of_nothing : asked_of (body_answer (message_of b)) ≡ Asked.Nothing → body_answer (message_of b) ≡ BodyAnswer.Wrong
+  pub wrong_of_nothing : asked_of (body_answer (message_of b)) ≡ Asked.Nothing → body_answer (message_of b) ≡ Err Refusal.BadBody
   wrong_of_nothing = read_of_asked Asked.Nothing
 
-  pub request_of_proposal : (c : ℕ) → asked_of (body_answer (message_of b)) ≡ Asked.Proposal c → body_answer (message_of b) ≡ BodyAnswer.Request (Proposing c)
+  pub request_of_proposal : (c : ℕ) → asked_of (body_answer (message_of b)) ≡ Asked.Proposal c → body_answer (message_of b) ≡ Ok (Proposing c)
   request_of_proposal c = read_of_asked (Asked.Proposal c)
 
-  pub request_of_order : asked_of (body_answer (message_of b)) ≡ Asked.Order → body_answer (message_of b) ≡ BodyAnswer.Request Ordering
+  pub request_of_order : asked_of (body_answer (message_of b)) ≡ Asked.Order → body_answer (message_of b) ≡ Ok Ordering
   request_of_order = read_of_asked Asked.Order
 
-  module _ (q : Request) (h : body_answer (message_of b) ≡ BodyAnswer.Request q) where
+  module _ (q : Request) (h : body_answer (message_of b) ≡ Ok q) where
     pub desk_of_request : (t : method.Table) → desk_body t b ≡ desk t (message_with q b)
     desk_of_request t = rw (message_of_request b q h).0
 
-  module _ (n c : ℕ) (h : body_answer (message_of b) ≡ BodyAnswer.Request (Opening n c)) where
+  module _ (n c : ℕ) (h : body_answer (message_of b) ≡ Ok (Opening n c)) where
     pub floors_of_request : (5 ≤ length b) × (length (words (drop 5 b)) ≡ c) × (c ≤ 38)
     floors_of_request =
         let (m, r) = message_of_request b (Opening n c) h in
@@ -115,7 +116,7 @@ module _ (b : List ℕ) where
         let e : length (words (drop 5 b)) ≡ c = cc in
         (low, e, omega (arith, length_words (drop 5 b), length-drop 5 b))
 
-  module _ (c : ℕ) (h : body_answer (message_of b) ≡ BodyAnswer.Request (Proposing c)) where
+  module _ (c : ℕ) (h : body_answer (message_of b) ≡ Ok (Proposing c)) where
     pub numbers_of_request : (1 ≤ length b) × (length (words (drop 1 b)) ≡ c) × (c ≤ 39)
     numbers_of_request =
         let (m, r) = message_of_request b (Proposing c) h in
@@ -129,4 +130,4 @@ module _ (t : Table) (b : List ℕ) (q p : Request) (h : asked_of (body_answer (
       → (a.answer ≡ answer_to t c) × (a.table ≡ table_after t c)
       → (a.table ≡ shut_table (desk_body t.held b).0) × (answer_line a.answer ≡ (desk_body t.held b).1)
   handed c d a s =
-      rw (desk_of_request b p (request_of_call b q h ∙ ap BodyAnswer.Request e) t.held, d) (s.1, ap answer_line s.0)
+      rw (desk_of_request b p (request_of_call b q h ∙ ap Ok e) t.held, d) (s.1, ap answer_line s.0)

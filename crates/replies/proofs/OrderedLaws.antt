@@ -5,7 +5,7 @@ use mathlib.Core.List.Memᴰ.{head as here}
 use mathlib.Core.List.Memᴰ.{tail as behind}
 use mathlib.Core.List.{List, ◌∷◌}
 use mathlib.Core.Logic.{◌↔◌, inl, inr}
-use mathlib.Core.Option.{Option, none, some}
+use Rattle.std.proofs.Common.{Option, Some, None}
 use Prim.Native.Nat.{ℕ}
 use Rattle.graph.specs.Lists.{◌∈◌}
 use Rattle.graph.specs.Path.{Cycle}
@@ -77,8 +77,8 @@ module _ (t : Table) (g : GoodRows (kept_flat t)) (x : (o : List ℕ) × InOrder
     body_listed b = go (message_of b)
       where
         go : (o : Option Message) → (desk_read t o).1 ≡ refused_line k → k ∈ 10 ∷ call_refusals
-        go none e = here (let f : 10 ≡ k = cc in sym f)
-        go (some m) e = behind (reply_listed (asks_for m) e)
+        go None e = here (let f : 10 ≡ k = cc in sym f)
+        go (Some m) e = behind (reply_listed (asks_for m) e)
 
   -- what an open table answers
   module _ (nc : ¬ Closed t) where

@@ -5,7 +5,7 @@ use mathlib.Core.List.Memᴰ.{head as here}
 use mathlib.Core.List.Memᴰ.{tail as behind}
 use mathlib.Core.List.{List, ◌∷◌}
 use mathlib.Core.Logic.{◌↔◌, ◌≢◌, inl}
-use mathlib.Core.Option.{Option, none, some}
+use Rattle.std.proofs.Common.{Option, Some, None}
 use Prim.Native.Nat.{ℕ}
 use Rattle.endian.specs.Places.{Below}
 use Rattle.graph.specs.Lists.{◌∈◌}
@@ -88,10 +88,10 @@ module _ (t : Table) (k : ℕ) where
   body_keeps b = go (message_of b)
     where
       go : (o : Option Message) → (desk_read t o).1 ≡ refused_line k → (desk_read t o).0 ≡ t
-      go none e = refl
-      go (some m) e = (desk_refuses m e).1
+      go None e = refl
+      go (Some m) e = (desk_refuses m e).1
 
-pub ten_of_no_message : (t : Table) (b : List ℕ) → message_of b ≡ none → desk_body t b ≡ (t, refused_line 10)
+pub ten_of_no_message : (t : Table) (b : List ℕ) → message_of b ≡ None → desk_body t b ≡ (t, refused_line 10)
 ten_of_no_message t b e = rw e
 
 -- 10 exactly if the body is no message's
@@ -102,15 +102,15 @@ ten_iff t b w = go (message_of b) refl
     not_ten = not_member_of_test 10 refusals refl
 
     go : (o : Option Message) → message_of b ≡ o → ((desk_read t o).1 ≡ refused_line 10) ↔ NoBody b
-    go none e = (λ x. no_body_of_none b e, λ x. refl)
-    go (some m) e = (λ x. absurd (not_ten (desk_refuses t 10 m x).0), λ x. absurd (let p = body_of_message b w m e in x m p.1 p.0))
+    go None e = (λ x. no_body_of_none b e, λ x. refl)
+    go (Some m) e = (λ x. absurd (not_ten (desk_refuses t 10 m x).0), λ x. absurd (let p = body_of_message b w m e in x m p.1 p.0))
 
 pub desk_of_none : (t : Table) (b : List ℕ) → Below 256 b → NoBody b → desk_body t b ≡ (t, refused_line 10)
 desk_of_none t b w h = go (message_of b) refl
   where
     go : (o : Option Message) → message_of b ≡ o → desk_read t o ≡ (t, refused_line 10)
-    go none e = refl
-    go (some m) e = absurd (let p = body_of_message b w m e in h m p.1 p.0)
+    go None e = refl
+    go (Some m) e = absurd (let p = body_of_message b w m e in h m p.1 p.0)
 
 -- a refused call's line
 told_refused : (t : Table) (c : Call) (k : ℕ) → FirstHolds (rules t c) k → told (step t c) ≡ (t, refused_line k)

@@ -31,7 +31,7 @@ module _ (t : Table) (b : List ℕ) where
   said x d u s e f = rw d (e, f)
 
   pub nothing_replied : asked_of (body_answer (message_of b)) ≡ Asked.Nothing → (u : Table) (s : Spoken) → u ≡ t → s ≡ spoken_of (refused_line 10) → Replies u s
-  nothing_replied h = said (refused_line 10) (ten_of_no_message t.held b (none_of_wrong b (wrong_of_nothing b h)))
+  nothing_replied h = said (refused_line 10) (ten_of_no_message t.held b (none_of_wrong b _ (wrong_of_nothing b h)))
 
   pub proposal_replied : (c : ℕ) → asked_of (body_answer (message_of b)) ≡ Asked.Proposal c → (s : Spoken)
       → s ≡ spoken_of (if_open t.held (proposal_line (kept_flat t.held) (words (drop 1 b)))) → Replies t s

@@ -1,7 +1,8 @@
 -- What a body asks for, of four sorts: a call that changes the table, a proposal, an order, or it is no message.
 use Rattle.wire.specs.declared.reader.Request.{Request}
 use Rattle.wire.specs.declared.reader.Request.TheVariants.{Opening, Beginning, Ticketing, Preparing, Aborting, Deciding, Forgetting, Sweeping, Proposing, Ordering}
-use Rattle.wire.specs.declared.reader.BodyAnswer.{BodyAnswer}
+use Rattle.std.specs.Prelude.{Result, Ok, Err}
+use Rattle.refusals.specs.declared.Refusal.{Refusal}
 use Rattle.replies.specs.declared.asked.Asked.{Asked}
 
 -- a proposal has only the count of its numbers, which stay in the body
@@ -17,6 +18,6 @@ sort_of Sweeping = Asked.Call Sweeping
 sort_of (Proposing c) = Asked.Proposal c
 sort_of Ordering = Asked.Order
 
-abbrev pub asked_of : BodyAnswer → Asked
-asked_of (BodyAnswer.Request q) = sort_of q
-asked_of BodyAnswer.Wrong = Asked.Nothing
+abbrev pub asked_of : Result Request Refusal → Asked
+asked_of (Ok q) = sort_of q
+asked_of (Err r) = Asked.Nothing

@@ -1,7 +1,7 @@
 -- One message at the desk: the table after it, and its line. RULES, The service. Rests on the messages of `wire`, the lines of `lines`, the
 -- steps of `method` and the orders of `queries`.
 use Rattle.std.specs.Prelude.{List, ℕ}
-use Rattle.std.proofs.Math.Option.{Option, none, some}
+use Rattle.std.specs.Prelude.{Option, Some, None}
 use Rattle.lines.specs.declared.Words.{Words}
 use Rattle.lines.specs.Line.{Line, Line.say, refused_line}
 use Rattle.wire.specs.Message.{Message, opening, beginning, ticketing, preparing, aborting, deciding, forgetting, sweeping, proposing, ordering}
@@ -57,8 +57,8 @@ desk t m = reply_to t (asks_for m)
 
 -- a body, which may be no message
 abbrev pub desk_read : Table → Option Message → Table × Line
-desk_read t none = (t, refused_line 10)
-desk_read t (some m) = desk t m
+desk_read t None = (t, refused_line 10)
+desk_read t (Some m) = desk t m
 
 abbrev pub desk_body : Table → List ℕ → Table × Line
 desk_body t b = desk_read t (message_of b)

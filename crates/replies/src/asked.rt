@@ -4,7 +4,7 @@ ghost use Rattle.wire.specs.Answers.{body_answer};
 ghost use Rattle.wire.specs.Body.{message_of};
 ghost use Rattle.replies.specs.Asked.{sort_of, asked_of};
 
-use wire::reader::{BodyAnswer, Request};
+use wire::reader::Request;
 
 #[derive(Drop)]
 pub enum Asked {
@@ -21,23 +21,9 @@ fn sort(q: Request) -> Asked
     ensures answer { result ≡ sort_of q }
 {
     match q {
-        Request::Opening {
-            first: _,
-            floors: _,
-        } => Asked::Call(q),
-        Request::Beginning { sites: _ } => Asked::Call(q),
-        Request::Ticketing {
-            number: _,
-            site: _,
-            ticket: _,
-        } => Asked::Call(q),
-        Request::Preparing { number: _, site: _ } => Asked::Call(q),
-        Request::Aborting { number: _ } => Asked::Call(q),
-        Request::Deciding { number: _ } => Asked::Call(q),
-        Request::Forgetting { number: _ } => Asked::Call(q),
-        Request::Sweeping => Asked::Call(q),
         Request::Proposing { numbers } => Asked::Proposal(numbers),
         Request::Ordering => Asked::Order,
+        _ => Asked::Call(q),
     }
 }
 
@@ -45,7 +31,7 @@ pub(crate) fn ask(body: &[u8]) -> Asked
     ensures answer { result ≡ asked_of (body_answer (message_of body.now)) }
 {
     match wire::reader::read_body(body) {
-        BodyAnswer::Wrong => Asked::Nothing,
-        BodyAnswer::Request(q) => sort(q),
+        Ok(q) => sort(q),
+        Err(_) => Asked::Nothing,
     }
 }

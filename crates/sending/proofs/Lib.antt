@@ -1,3 +1,2 @@
-pub mod WritingLaws
 pub mod MeaningLaws
 pub mod RoundLaws

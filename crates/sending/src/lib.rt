@@ -4,41 +4,25 @@
 ghost use Rattle.std.specs.Prelude.{◌≡◌};
 ghost use Rattle.sending.specs.Writing.{write_answer, written};
 
-use kinds::Count;
+use refusals::Refusal;
 
-#[derive(Drop)]
-pub enum WriteAnswer {
-    // how many bytes the message has
-    Written(usize),
-    // refusal 11
-    TooLong,
-    // refusal 10
-    Wrong,
-    // refusal 14
-    NoRoom,
-}
-
-pub fn write_message(body: &[u8], out: &mut [u8], place: usize) -> WriteAnswer
+// How many bytes the message has.
+pub fn write_message(body: &[u8], out: &mut [u8], place: usize) -> Result<usize, Refusal>
     ensures answer { result ≡ write_answer body.now out.old place }
     ensures buffer { out.new ≡ written body.now out.old place }
 {
     let n = body.len();
     if 160 < n {
-        return WriteAnswer::TooLong;
+        return Err(Refusal::BadFrame);
     }
-    let kind = endian::get8(body, 0);
-    let Count::Entries(_) = kinds::entries(kind, n) else {
-        return WriteAnswer::Wrong;
-    };
+    kinds::entries(endian::get8(body, 0), n).ok_or(Refusal::BadBody)?;
     let whole = n + 3;
-    if out.len() < whole {
-        return WriteAnswer::NoRoom;
+    if out.len() < whole || out.len() - whole < place {
+        return Err(Refusal::NoRoom);
     }
-    if out.len() - whole < place {
-        return WriteAnswer::NoRoom;
-    }
-    let header = [1, (n / 256) as u8, (n % 256) as u8];
+    let [high, low] = (n as u16).to_be_bytes();
+    let header = [1, high, low];
     endian::put(out, place, &header);
     endian::put(out, place + 3, body);
-    WriteAnswer::Written(whole)
+    Ok(whole)
 }

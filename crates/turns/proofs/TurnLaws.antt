@@ -15,7 +15,8 @@ use Rattle.endian.proofs.LaidLaws.{laid_of_laid}
 use Rattle.lines.specs.Line.{line_bytes}
 use Rattle.frames.specs.Frame.{nothing, cut, frame_of, next_frame, body_to, EndsAt}
 use Rattle.frames.specs.Stream.{Stream, ended, cut_off, framed, bytes_of, stream_of}
-use Rattle.frames.specs.declared.FrameAnswer.{FrameAnswer}
+use Rattle.std.proofs.Common.{Ok, Err, None}
+use Rattle.refusals.specs.declared.Refusal.{Refusal}
 use Rattle.frames.specs.Answer.{frame_answer}
 use Rattle.frames.proofs.AnswerLaws.{bad_of_answer, not_yet_of_answer}
 use Rattle.frames.proofs.FrameLaws.{means_of_next, length_body_to}
@@ -38,12 +39,12 @@ module _ (last : Bool) (t : Table) (left : ℕ) where
   turn_no_room h (framed b s) = rw (lt-leb 358 left h) refl
 
   module _ (h : 358 ≤ left) (l : List ℕ) where
-    pub turn_bad : frame_answer (next_frame l) ≡ FrameAnswer.Bad → turn last t left (stream_of l) ≡ ends t
+    pub turn_bad : (q : Refusal) → frame_answer (next_frame l) ≡ Err q → turn last t left (stream_of l) ≡ ends t
     unfolding turn
-    turn_bad e = rw (stream_of_bad l (bad_of_answer l e), le-leb 358 left h) refl
+    turn_bad q e = rw (stream_of_bad l (bad_of_answer l q e), le-leb 358 left h) refl
 
     -- not yet whole: the end only where the input ends, and something is left
-    pub turn_not_yet : frame_answer (next_frame l) ≡ FrameAnswer.NotYet → turn last t left (stream_of l) ≡ cond (last && not (eqb (length l) 0)) (ends t) (stops t)
+    pub turn_not_yet : frame_answer (next_frame l) ≡ Ok None → turn last t left (stream_of l) ≡ cond (last && not (eqb (length l) 0)) (ends t) (stops t)
     unfolding turn
     turn_not_yet e = go (not_yet_of_answer l e)
       where

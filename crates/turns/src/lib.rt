@@ -8,7 +8,6 @@ ghost use Rattle.table.specs.Shut.{shut_table};
 ghost use Rattle.turns.specs.Turn.{turn, eleven};
 ghost use Rattle.turns.specs.Struct.{turn_of};
 
-use frames::FrameAnswer;
 use lines::Words;
 use table::Table;
 
@@ -54,13 +53,13 @@ pub fn take_turn(t: Table, input: &[u8], last: bool, out: &mut [u8]) -> Turn
     while 358 <= out.len() - written {
         let rest = &input[used..];
         match frames::read_frame(rest) {
-            FrameAnswer::Whole { end } => {
+            Ok(Some(end)) => {
                 let s = desk::serve(table, &rest[3..end], out, written);
                 table = s.table;
                 written += s.count;
                 used += end;
             }
-            FrameAnswer::NotYet => {
+            Ok(None) => {
                 if last & (rest.len() != 0) {
                     return last_line(table, used, out, written);
                 }
@@ -71,7 +70,7 @@ pub fn take_turn(t: Table, input: &[u8], last: bool, out: &mut [u8]) -> Turn
                     over: false,
                 };
             }
-            FrameAnswer::Bad => {
+            Err(_) => {
                 return last_line(table, used, out, written);
             }
         }

@@ -1,73 +1,44 @@
--- The code's answers and the definitions: what an answer says of the bytes. A request and its body make up the message. Assumes nothing.
-use mathlib.Core.Path.{◌≡◌, refl}
-use mathlib.Core.List.{List}
-use Prim.Native.Nat.{ℕ, ◌+◌, ◌<◌}
-use lib.ListN.{length, get_or}
-use Rattle.endian.specs.Places.{word32}
+-- The code's answers and the definitions: how many entries the lists of a body have, and the whole message's answer from the frame's.
+-- Assumes nothing.
+use Rattle.std.proofs.Common.{◌≡◌, refl, List, ℕ, ◌+◌, ◌≤◌, Some, None, Ok, length, drop}
+use Rattle.endian.specs.Bytes.{words}
 use Rattle.endian.proofs.WordsLaws.{length_words_of_drop}
-use Rattle.kinds.specs.declared.Count.{Count}
-use Rattle.wire.specs.declared.reader.BodyAnswer.{BodyAnswer}
-use Rattle.frames.specs.declared.FrameAnswer.{FrameAnswer}
-use Rattle.wire.specs.declared.reader.ReadAnswer.{ReadAnswer}
-use Rattle.kinds.specs.Kinds.{HasLength, entries_of, count_of}
-use Rattle.wire.specs.Body.{message_at, message_of}
-use Rattle.frames.specs.Frame.{body_to, EndsAt, Next, nothing, cut, bad, whole, Means}
-use Rattle.wire.specs.Answers.{request_of, request_at, body_answer, with_end, read_answer}
+use Rattle.kinds.specs.Kinds.{entries_of}
+use Rattle.kinds.proofs.KindsLaws.{length_of_entries}
+use Rattle.frames.specs.Frame.{body_to, EndsAt, Next, nothing, cut, bad, whole, Means, next_frame}
 use Rattle.frames.specs.Answer.{frame_answer}
-use Rattle.kinds.proofs.CaseLaws.{apart, by_kind}
-use Rattle.kinds.proofs.KindsLaws.{length_of_entries, some_of_count, none_of_count}
-use Rattle.frames.proofs.FrameLaws.{ends_framed}
+use Rattle.frames.proofs.FrameLaws.{ends_framed, means_next}
+use Rattle.wire.specs.Body.{message_of}
+use Rattle.wire.specs.Answers.{body_answer, with_end, read_answer}
 
-module _ (b : List ℕ) where
-  abbrev AtKind : ℕ → Type 0
-  AtKind k = (n : ℕ) → HasLength k n (length b) → request_of (message_at k b) ≡ request_at k n (get_or b 1 0) (word32 b 1) (get_or b 5 0) (word32 b 6)
+-- the floors of an opening, and the numbers of a proposal
+module _ (b : List ℕ) (n : ℕ) where
+  pub floors_counted : entries_of 0 (length b) ≡ Some n → length (words (drop 5 b)) ≡ n
+  floors_counted e = length_words_of_drop b 5 n (length_of_entries 0 (length b) n e).bytes
 
-  -- the request of each kind is its message with the list counted
-  at_kind : (k : ℕ) → k < 10 → AtKind k
-  unfolding message_at request_at
-  at_kind =
-      by_kind AtKind
-      (λ n h. rw (length_words_of_drop b 5 n h.bytes))
-      (λ n h. refl)
-      (λ n h. refl)
-      (λ n h. refl)
-      (λ n h. refl)
-      (λ n h. refl)
-      (λ n h. refl)
-      (λ n h. refl)
-      (λ n h. rw (length_words_of_drop b 1 n h.bytes))
-      (λ n h. refl)
+  pub numbers_counted : entries_of 8 (length b) ≡ Some n → length (words (drop 1 b)) ≡ n
+  numbers_counted e = length_words_of_drop b 1 n (length_of_entries 8 (length b) n e).bytes
 
-  pub answer_of_wrong : count_of (entries_of (get_or b 0 0) (length b)) ≡ Count.Wrong → BodyAnswer.Wrong ≡ body_answer (message_of b)
-  answer_of_wrong e = rw (none_of_count (entries_of (get_or b 0 0) (length b)) e)
+-- the part from byte 3 to the end is the body
+module _ (l : List ℕ) (e : ℕ) where
+  by_end : (x : Next) → Means l x → frame_answer x ≡ Ok (Some e) → EndsAt e l × (read_answer x ≡ with_end (body_answer (message_of (body_to e l))) e)
+  by_end nothing p h = cc
+  by_end cut p h = cc
+  by_end bad p h = cc
+  by_end (whole b r) p h =
+      let k : 3 + length b ≡ e = cc in
+      let (i, f) = ends_framed l e b r p k in
+      (f, rw (← i, k))
 
-  pub answer_of_count : (n : ℕ) → count_of (entries_of (get_or b 0 0) (length b)) ≡ Count.Entries n →
-      BodyAnswer.Request (request_at (get_or b 0 0) n (get_or b 1 0) (word32 b 1) (get_or b 5 0) (word32 b 6)) ≡ body_answer (message_of b)
-  answer_of_count n e =
-      let k = get_or b 0 0 in
-      let c = some_of_count (entries_of k (length b)) n e in
-      let h = length_of_entries k (length b) n c in
-      rw (← at_kind k h.known n h, c)
+  pub end_within : frame_answer (next_frame l) ≡ Ok (Some e) → e ≤ length l
+  end_within h = (by_end (next_frame l) (means_next l) h).0.within
 
--- the whole message's answer from the frame's: the part from byte 3 to e is handed on
-pub part_of_answer : (l : List ℕ) (e : ℕ) (x : Next) → Means l x → frame_answer x ≡ FrameAnswer.Whole e →
-    EndsAt e l × (read_answer x ≡ with_end (body_answer (message_of (body_to e l))) e)
-part_of_answer l e nothing p h = apart (cc)
-part_of_answer l e cut p h = apart (cc)
-part_of_answer l e bad p h = apart (cc)
-part_of_answer l e (whole b r) p h =
-    let k : 3 + length b ≡ e = cc in
-    let (i, f) = ends_framed l e b r p k in
-    (f, rw (← i, k))
+  pub end_read : frame_answer (next_frame l) ≡ Ok (Some e) → read_answer (next_frame l) ≡ with_end (body_answer (message_of (body_to e l))) e
+  end_read h = (by_end (next_frame l) (means_next l) h).1
 
-pub read_of_not_yet : (x : Next) → frame_answer x ≡ FrameAnswer.NotYet → ReadAnswer.NotYet ≡ read_answer x
-read_of_not_yet nothing h = refl
-read_of_not_yet cut h = refl
-read_of_not_yet bad h = apart (cc)
-read_of_not_yet (whole b r) h = apart (cc)
-
-pub read_of_bad : (x : Next) → frame_answer x ≡ FrameAnswer.Bad → ReadAnswer.Bad ≡ read_answer x
-read_of_bad nothing h = apart (cc)
-read_of_bad cut h = apart (cc)
-read_of_bad bad h = refl
-read_of_bad (whole b r) h = apart (cc)
+-- where no message ends there is no answer of a body
+pub not_yet_read : (x : Next) → frame_answer x ≡ Ok None → read_answer x ≡ Ok None
+not_yet_read nothing h = refl
+not_yet_read cut h = refl
+not_yet_read bad h = cc
+not_yet_read (whole b r) h = cc

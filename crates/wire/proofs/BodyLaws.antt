@@ -2,7 +2,9 @@
 -- body. Kind by kind, the fields are taken off the front. Assumes nothing.
 use mathlib.Core.Path.{◌≡◌, ◌∙◌, refl, sym, ap}
 use mathlib.Core.List.{List, [], ◌∷◌, ◌++◌}
-use mathlib.Core.Option.{none, some, map-eq-some_iff, none-ne-some}
+use Rattle.std.proofs.Common.{Option, Some, None}
+use Rattle.std.specs.Option.{option_map}
+use Rattle.std.proofs.lemmas.Option.{none-some}
 use Prim.Native.Nat.{ℕ, suc, ◌+◌, ◌*◌, ◌<◌, ◌≤◌, ◌^◌}
 use native.Mathlib.Omega.{arith}
 use lib.ListN.{length, get_or, drop, length-drop, drop_of_length-le}
@@ -19,10 +21,19 @@ use Rattle.wire.specs.Body.{message_at, message_of}
 use Rattle.kinds.proofs.CaseLaws.{by_kind}
 use Rattle.kinds.proofs.KindsLaws.{length_of_entries, entries_of_length, length_le_of_entries}
 
-message_of_entries : (b : List ℕ) (n : ℕ) → HasLength (get_or b 0 0) n (length b) → message_of b ≡ some (message_at (get_or b 0 0) b)
+message_of_entries : (b : List ℕ) (n : ℕ) → HasLength (get_or b 0 0) n (length b) → message_of b ≡ Some (message_at (get_or b 0 0) b)
 message_of_entries b n h = rw (entries_of_length (get_or b 0 0) (length b) n h)
 
-pub message_of_body : (m : Message) → InRange m → message_of (body_of m) ≡ some m
+-- what is read as a message has a length that its kind has
+pub entries_of_message : (b : List ℕ) (m : Message) → message_of b ≡ Some m →
+    (n : ℕ) × (entries_of (get_or b 0 0) (length b) ≡ Some n) × (message_at (get_or b 0 0) b ≡ m)
+entries_of_message b m = go (entries_of (get_or b 0 0) (length b))
+  where
+    go : (o : Option ℕ) → option_map (λ (n : ℕ). message_at (get_or b 0 0) b) o ≡ Some m → (n : ℕ) × (o ≡ Some n) × (message_at (get_or b 0 0) b ≡ m)
+    go None e = absurd (none-some m e)
+    go (Some n) e = (n, refl, cc)
+
+pub message_of_body : (m : Message) → InRange m → message_of (body_of m) ≡ Some m
 unfolding entries_of message_at
 message_of_body (opening n fs) h =
     message_of_entries (body_of (opening n fs)) (length fs)
@@ -110,16 +121,16 @@ module _ (b : List ℕ) (below : Below 256 b) where
       (λ n h. tt)
 
   -- a body that is read as a message is that message's body, and the message is in range
-  pub body_of_message : (m : Message) → message_of b ≡ some m → (body_of m ≡ b) × InRange m
+  pub body_of_message : (m : Message) → message_of b ≡ Some m → (body_of m ≡ b) × InRange m
   body_of_message m e =
       let k = get_or b 0 0 in
-      let (n, c, a) = (map-eq-some_iff (λ (n : ℕ). message_at k b) (entries_of k (length b))).0 e in
+      let (n, c, a) = entries_of_message b m e in
       let h = length_of_entries k (length b) n c in
       rw (← a) (sym (body_at k h.known n refl h), range_at k h.known n h)
 
 -- where there is no message, 10, no message has that body
-pub no_body_of_none : (b : List ℕ) → message_of b ≡ none → (m : Message) → InRange m → body_of m ≡ b → ⊥
-no_body_of_none b e m h p = none-ne-some m (sym e ∙ ap message_of (sym p) ∙ message_of_body m h)
+pub no_body_of_none : (b : List ℕ) → message_of b ≡ None → (m : Message) → InRange m → body_of m ≡ b → ⊥
+no_body_of_none b e m h p = none-some m (sym e ∙ ap message_of (sym p) ∙ message_of_body m h)
 
 -- the bodies of messages are bytes, at most 160 of them
 pub below_body_of : (m : Message) → InRange m → Below 256 (body_of m)
@@ -134,7 +145,7 @@ below_body_of sweeping h = (omega arith, tt)
 below_body_of (proposing ns) h = (omega arith, below_word_bytes ns h.1)
 below_body_of ordering h = (omega arith, tt)
 
-pub length_le_of_message : (b : List ℕ) (m : Message) → message_of b ≡ some m → length b ≤ 160
+pub length_le_of_message : (b : List ℕ) (m : Message) → message_of b ≡ Some m → length b ≤ 160
 length_le_of_message b m e =
-    let (n, c, a) = (map-eq-some_iff (λ (n : ℕ). message_at (get_or b 0 0) b) (entries_of (get_or b 0 0) (length b))).0 e in
+    let (n, c, a) = entries_of_message b m e in
     length_le_of_entries (get_or b 0 0) (length b) n c

@@ -1,7 +1,7 @@
 -- The message of a body. Rests on specs/Message.antt and on the table of crate `kinds`; proofs/BodyLaws.antt shows that this is the one
 -- message whose body it is, and that where there is none no message has that body.
-use Rattle.std.specs.Prelude.{List, [], ◌∷◌, ℕ, length, get_or, drop}
-use Rattle.std.proofs.Math.Option.{Option, map}
+use Rattle.std.specs.Prelude.{List, [], ◌∷◌, ℕ, length, get_or, drop, Option}
+use Rattle.std.specs.Option.{option_map}
 use Rattle.endian.specs.Bytes.{words}
 use Rattle.endian.specs.Places.{word32}
 use Rattle.wire.specs.Message.{Message, opening, beginning, ticketing, preparing, aborting, deciding, forgetting, sweeping, proposing, ordering}
@@ -25,7 +25,7 @@ message_at k b =
     k
     ordering
 
--- `none` is refusal 10: kind unknown, body empty or length wrong for its kind. An empty body needs no case of its own: every length
+-- `None` is refusal 10: kind unknown, body empty or length wrong for its kind. An empty body needs no case of its own: every length
 -- in the table is at least 1.
 abbrev pub message_of : List ℕ → Option Message
-message_of b = map (λ (n : ℕ). message_at (get_or b 0 0) b) (entries_of (get_or b 0 0) (length b))
+message_of b = option_map (λ (n : ℕ). message_at (get_or b 0 0) b) (entries_of (get_or b 0 0) (length b))

@@ -1,9 +1,10 @@
--- What each answer of the reader means, said by messages, frames and places alone, and its number in RULES. proofs/MeaningLaws.antt shows of
+-- What each answer of the reader means, said by messages, frames and places alone. proofs/MeaningLaws.antt shows of
 -- every list of bytes that its answer is the one that fits, and that no second one does.
-use Rattle.std.specs.Prelude.{◌≡◌, List, [], ◌⊎◌, ℕ}
-use Rattle.std.proofs.Math.Option.{Option, none, some}
-use Rattle.wire.specs.declared.reader.BodyAnswer.{BodyAnswer}
-use Rattle.wire.specs.declared.reader.ReadAnswer.{ReadAnswer}
+use Rattle.std.specs.Prelude.{◌≡◌, List, [], ◌⊎◌, ℕ, Option, Some, None, Result, Ok, Err}
+use Rattle.refusals.specs.declared.Refusal.{Refusal}
+use Rattle.refusals.specs.Numbers.{number_of, told_by}
+use Rattle.wire.specs.declared.reader.Message as reader
+use Rattle.wire.specs.declared.reader.Request.{Request}
 use Rattle.wire.specs.Message.{Message, InRange, body_of}
 use Rattle.frames.specs.Frame.{Cut, Bad, body_to, EndsAt}
 use Rattle.wire.specs.Answers.{request_of}
@@ -12,23 +13,17 @@ use Rattle.wire.specs.Answers.{request_of}
 abbrev pub NoBody : List ℕ → Type 0
 NoBody b = (m : Message) → InRange m → body_of m ≡ b → ⊥
 
-abbrev pub BodyMeans : List ℕ → BodyAnswer → Type 0
-BodyMeans b (BodyAnswer.Request q) = (m : Message) × InRange m × (body_of m ≡ b) × (request_of m ≡ q)
-BodyMeans b BodyAnswer.Wrong = NoBody b
+abbrev pub BodyMeans : List ℕ → Result Request Refusal → Type 0
+BodyMeans b (Ok q) = (m : Message) × InRange m × (body_of m ≡ b) × (request_of m ≡ q)
+BodyMeans b (Err r) = (r ≡ Refusal.BadBody) × NoBody b
 
-abbrev pub ReadMeans : List ℕ → ReadAnswer → Type 0
-ReadMeans l (ReadAnswer.Message q e) = EndsAt e l × BodyMeans (body_to e l) (BodyAnswer.Request q)
-ReadMeans l (ReadAnswer.Wrong e) = EndsAt e l × BodyMeans (body_to e l) BodyAnswer.Wrong
-ReadMeans l ReadAnswer.NotYet = (l ≡ []) ⊎ Cut l
-ReadMeans l ReadAnswer.Bad = Bad l
+abbrev pub ReadMeans : List ℕ → Result (Option reader.Message) Refusal → Type 0
+ReadMeans l (Ok (Some m)) = EndsAt m.end l × BodyMeans (body_to m.end l) m.request
+ReadMeans l (Ok None) = (l ≡ []) ⊎ Cut l
+ReadMeans l (Err r) = (r ≡ Refusal.BadFrame) × Bad l
 
--- the refusal numbers
-abbrev pub body_refusal : BodyAnswer → Option ℕ
-body_refusal (BodyAnswer.Request q) = none
-body_refusal BodyAnswer.Wrong = some 10
-
-abbrev pub read_refusal : ReadAnswer → Option ℕ
-read_refusal (ReadAnswer.Message q e) = none
-read_refusal (ReadAnswer.Wrong e) = some 10
-read_refusal ReadAnswer.NotYet = none
-read_refusal ReadAnswer.Bad = some 11
+-- the refusal number: that of the body, or of the frame
+abbrev pub read_refusal : Result (Option reader.Message) Refusal → Option ℕ
+read_refusal (Ok (Some m)) = told_by m.request
+read_refusal (Ok None) = None
+read_refusal (Err r) = Some (number_of r)

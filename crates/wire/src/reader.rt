@@ -1,11 +1,12 @@
 // From bytes to messages. The lists of an opening and of a proposal stay in the bytes; a request has only their count.
-ghost use Rattle.std.specs.Prelude.{◌≡◌};
+ghost use Rattle.std.specs.Prelude.{◌≡◌, length, Some};
 ghost use Rattle.frames.specs.Frame.{next_frame};
-ghost use Rattle.wire.specs.Body.{message_of};
-ghost use Rattle.wire.specs.Answers.{request_at, body_answer, read_answer};
+ghost use Rattle.kinds.specs.Kinds.{code_of, entries_of};
+ghost use Rattle.wire.specs.Body.{message_at, message_of};
+ghost use Rattle.wire.specs.Answers.{request_of, body_answer, read_answer};
 
-use frames::FrameAnswer;
-use kinds::Count;
+use kinds::Kind;
+use refusals::Refusal;
 
 // A message without its list: specs/Answers.antt says how it and the body make up the message.
 #[derive(Drop)]
@@ -22,79 +23,62 @@ pub enum Request {
     Ordering,
 }
 
-#[derive(Drop)]
-pub enum BodyAnswer {
-    Request(Request),
-    // refusal 10
-    Wrong,
-}
-
-// The request of a kind, from the fields where they stand in the kinds that have them.
-fn request_at(kind: u8, n: usize, sites: u8, number: u32, site: u8, ticket: u32) -> Request
-    ensures { result ≡ request_at kind n sites number site ticket }
+// The request of a kind, from the fields where they stand in the bodies of that kind.
+#[tactic(auto, using(crate::proofs::AnswerLaws::floors_counted, crate::proofs::AnswerLaws::numbers_counted), unfolding(crate::specs::Body::message_at))]
+fn request_at(kind: Kind, n: usize, body: &[u8]) -> Request
+    requires { entries_of (code_of kind) (length body.now) ≡ Some n }
+    ensures { result ≡ request_of (message_at (code_of kind) body.now) }
 {
+    let number = endian::get32(body, 1);
+    let site = endian::get8(body, 5);
     match kind {
-        0 => Request::Opening {
+        Kind::Open => Request::Opening {
             first: number,
             floors: n,
         },
-        1 => Request::Beginning { sites: sites },
-        2 => Request::Ticketing {
-            number: number,
-            site: site,
-            ticket: ticket,
+        Kind::Begin => Request::Beginning {
+            sites: endian::get8(body, 1),
         },
-        3 => Request::Preparing {
-            number: number,
-            site: site,
+        Kind::Ticket => Request::Ticketing {
+            number,
+            site,
+            ticket: endian::get32(body, 6),
         },
-        4 => Request::Aborting { number: number },
-        5 => Request::Deciding { number: number },
-        6 => Request::Forgetting { number: number },
-        7 => Request::Sweeping,
-        8 => Request::Proposing { numbers: n },
-        _ => Request::Ordering,
+        Kind::Prepared => Request::Preparing { number, site },
+        Kind::Abort => Request::Aborting { number },
+        Kind::Decide => Request::Deciding { number },
+        Kind::Forget => Request::Forgetting { number },
+        Kind::Sweep => Request::Sweeping,
+        Kind::Propose => Request::Proposing { numbers: n },
+        Kind::Order => Request::Ordering,
     }
 }
 
-pub fn read_body(body: &[u8]) -> BodyAnswer
+#[tactic(auto, unfolding(kinds::specs::Kinds::entries_of))]
+pub fn read_body(body: &[u8]) -> Result<Request, Refusal>
     ensures { result ≡ body_answer (message_of body.now) }
 {
     // an empty body reads as kind 0, and no kind has length 0
-    let kind = endian::get8(body, 0);
-    let Count::Entries(n) = kinds::entries(kind, body.len()) else {
-        return BodyAnswer::Wrong;
-    };
-    let sites = endian::get8(body, 1);
-    let number = endian::get32(body, 1);
-    let site = endian::get8(body, 5);
-    let ticket = endian::get32(body, 6);
-    BodyAnswer::Request(request_at(kind, n, sites, number, site, ticket))
+    let kind = Kind::try_from(endian::get8(body, 0))?;
+    let n = kind.entries(body.len()).ok_or(Refusal::BadBody)?;
+    Ok(request_at(kind, n, body))
 }
 
-// Frame and body in one: the first message of the bytes at hand, and where it ends.
+// The first message of the bytes at hand, and where it ends: after a body that is refused reading goes on there too.
 #[derive(Drop)]
-pub enum ReadAnswer {
-    Message { request: Request, end: usize },
-    // refusal 10: reading goes on at `end`
-    Wrong { end: usize },
-    NotYet,
-    // refusal 11: reading ends
-    Bad,
+pub struct Message {
+    pub request: Result<Request, Refusal>,
+    pub end: usize,
 }
 
-pub fn read_message(msg: &[u8]) -> ReadAnswer
+// Frame and body in one. None where the message is not yet whole.
+#[tactic(auto, using(crate::proofs::AnswerLaws::end_within, crate::proofs::AnswerLaws::end_read, crate::proofs::AnswerLaws::not_yet_read))]
+pub fn read_message(msg: &[u8]) -> Result<Option<Message>, Refusal>
     ensures { result ≡ read_answer (next_frame msg.now) }
 {
-    match frames::read_frame(msg) {
-        FrameAnswer::Whole { end } => match read_body(&msg[3..end]) {
-            BodyAnswer::Request(request) => ReadAnswer::Message {
-                request: request,
-                end: end,
-            },
-            BodyAnswer::Wrong => ReadAnswer::Wrong { end: end },
-        },
-        FrameAnswer::NotYet => ReadAnswer::NotYet,
-        FrameAnswer::Bad => ReadAnswer::Bad,
-    }
+    let Some(end) = frames::read_frame(msg)? else {
+        return Ok(None);
+    };
+    let request = read_body(&msg[3..end]);
+    Ok(Some(Message { request, end }))
 }

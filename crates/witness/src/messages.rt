@@ -2,33 +2,32 @@
 ghost use Rattle.promises.specs.Stated.{BodyGives, FrameGives, ReadGives, MessageGives, LineGives, OrderGives, ReplyGives, ServeGives, TurnGives};
 
 use desk::Served;
-use frames::FrameAnswer;
 use lines::Words;
+use refusals::Refusal;
 use replies::Replied;
-use sending::WriteAnswer;
 use table::Table;
 use turns::Turn;
-use wire::reader::{BodyAnswer, ReadAnswer};
+use wire::reader::{Message, Request};
 
-fn read_body(body: &[u8]) -> BodyAnswer
+fn read_body(body: &[u8]) -> Result<Request, Refusal>
     ensures gives { BodyGives body.now result }
 {
     wire::reader::read_body(body)
 }
 
-fn read_frame(msg: &[u8]) -> FrameAnswer
+fn read_frame(msg: &[u8]) -> Result<Option<usize>, Refusal>
     ensures gives { FrameGives msg.now result }
 {
     frames::read_frame(msg)
 }
 
-fn read_message(msg: &[u8]) -> ReadAnswer
+fn read_message(msg: &[u8]) -> Result<Option<Message>, Refusal>
     ensures gives { ReadGives msg.now result }
 {
     wire::reader::read_message(msg)
 }
 
-fn write_message(body: &[u8], out: &mut [u8], place: usize) -> WriteAnswer
+fn write_message(body: &[u8], out: &mut [u8], place: usize) -> Result<usize, Refusal>
     ensures gives { MessageGives body.now out.old place result out.new }
 {
     sending::write_message(body, out, place)

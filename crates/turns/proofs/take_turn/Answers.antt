@@ -10,7 +10,7 @@ use lib.ListN.{length, take, drop, length-drop}
 use Rattle.endian.proofs.PartLaws.{part_is}
 use Rattle.endian.specs.Laid.{laid}
 use Rattle.frames.specs.Frame.{next_frame, body_to, EndsAt}
-use Rattle.frames.specs.declared.FrameAnswer.{FrameAnswer}
+use Rattle.std.proofs.Common.{Ok, None}
 use Rattle.frames.specs.Stream.{stream_of}
 use Rattle.frames.specs.Answer.{frame_answer, FrameMeans}
 use Rattle.frames.proofs.AnswerLaws.{frame_means}
@@ -20,7 +20,7 @@ use Rattle.desk.specs.Served.{bytes_for, served_table, served_count, served_out}
 use Rattle.turns.specs.Turn.{Turned, turn, stops, ends, eleven}
 use Rattle.turns.proofs.RoomLaws.{served_room, laid_fits}
 use Rattle.turns.proofs.TurnLaws.{Going, Ended, going_start, going_stops, going_ends, going_frame, turn_no_room, turn_bad, turn_not_yet, used_le, clauses}
-use Rattle.turns.proofs.take_turn.Goals.{After-read_frame, After-serve-s, In-Whole}
+use Rattle.turns.proofs.take_turn.Goals.{After-read_frame, After-serve-s, In-Ok-Some}
 use Rattle.turns.proofs.take_turn.Goals as goal
 
 -- where a frame was looked for
@@ -74,7 +74,7 @@ module _ (c : After-read_frame) where
   within_input = used_le last first (length out) input
 
   -- no whole frame: by what the code asks then
-  waits : (b : Bool) → frame_answer (next_frame (drop used input)) ≡ FrameAnswer.NotYet → last && not (eqb (length (take (length input - used) (drop used input))) 0) ≡ b → on_rest ≡ cond b (ends held_now) (stops held_now)
+  waits : (b : Bool) → frame_answer (next_frame (drop used input)) ≡ Ok None → last && not (eqb (length (take (length input - used) (drop used input))) 0) ≡ b → on_rest ≡ cond b (ends held_now) (stops held_now)
   waits b e f =
       turn_not_yet last held_now (length out - written) room (drop used input) e
       ∙ ap (λ x. cond x (ends held_now) (stops held_now)) (ap (λ l. last && not (eqb (length l) 0)) (sym rest) ∙ f)
@@ -86,17 +86,17 @@ module _ (c : After-read_frame) where
   ending = going_ends last first input out held_now used c.loop-out.out written going
 
 -- where a frame was found; `an` is what was answered there
-module _ (c : In-Whole) (an : c.read_frame.result ≡ frame_answer (next_frame (drop c.loop-out.used c.args.input.now))) where
-  frame : EndsAt c.in-Whole.end (drop c.loop-out.used c.args.input.now)
-  frame = subst (FrameMeans (drop c.loop-out.used c.args.input.now)) (sym an ∙ c.in-Whole.is) (frame_means (drop c.loop-out.used c.args.input.now))
+module _ (c : In-Ok-Some) (an : c.read_frame.result ≡ frame_answer (next_frame (drop c.loop-out.used c.args.input.now))) where
+  frame : EndsAt c.in-Ok-Some.end (drop c.loop-out.used c.args.input.now)
+  frame = subst (FrameMeans (drop c.loop-out.used c.args.input.now)) (sym an ∙ c.in-Ok-Some.is ∙ ap Ok c.in-Ok-Some.field-0-is) (frame_means (drop c.loop-out.used c.args.input.now))
 
-  within : c.loop-out.used + c.in-Whole.end ≤ length c.args.input.now
+  within : c.loop-out.used + c.in-Ok-Some.end ≤ length c.args.input.now
   within = omega (arith, frame.within, length-drop c.loop-out.used c.args.input.now, c.loop-out.invariant.1.inside)
 
 -- where it was answered; `fr` is the frame, and `re` what the rest is
-module _ (c : After-serve-s) (fr : EndsAt c.in-Whole.end (drop c.loop-out.used c.args.input.now)) (re : take (length c.args.input.now - c.loop-out.used) (drop c.loop-out.used c.args.input.now) ≡ (drop c.loop-out.used c.args.input.now)) where
+module _ (c : After-serve-s) (fr : EndsAt c.in-Ok-Some.end (drop c.loop-out.used c.args.input.now)) (re : take (length c.args.input.now - c.loop-out.used) (drop c.loop-out.used c.args.input.now) ≡ (drop c.loop-out.used c.args.input.now)) where
   abbrev body : List ℕ
-  body = body_to c.in-Whole.end (drop c.loop-out.used c.args.input.now)
+  body = body_to c.in-Ok-Some.end (drop c.loop-out.used c.args.input.now)
 
   abbrev line : List ℕ
   line = bytes_for c.loop-out.table.held body
@@ -107,8 +107,8 @@ module _ (c : After-serve-s) (fr : EndsAt c.in-Whole.end (drop c.loop-out.used c
   roomy : c.loop-out.written + 358 ≤ length c.loop-out.out
   roomy = omega (arith, space, c.loop-out.invariant.0)
 
-  body_is : take (c.in-Whole.end - 3) (drop 3 (take (length c.args.input.now - c.loop-out.used) (drop c.loop-out.used c.args.input.now))) ≡ body
-  body_is = ap (λ l. take (c.in-Whole.end - 3) (drop 3 l)) re
+  body_is : take (c.in-Ok-Some.end - 3) (drop 3 (take (length c.args.input.now - c.loop-out.used) (drop c.loop-out.used c.args.input.now))) ≡ body
+  body_is = ap (λ l. take (c.in-Ok-Some.end - 3) (drop 3 l)) re
 
   table_is : c.serve-s.result.table.held ≡ (desk_body c.loop-out.table.held body).0
   table_is =
@@ -131,11 +131,11 @@ module _ (c : After-serve-s) (fr : EndsAt c.in-Whole.end (drop c.loop-out.used c
   fits : c.loop-out.written + length line ≤ length c.loop-out.out
   fits = laid_fits c.loop-out.out line c.loop-out.written (omega (arith, roomy)) (ap length (sym buffer_is) ∙ c.serve-s.auto.out)
 
-  on : Going c.args.last c.args.t.held c.args.input.now c.args.out.now c.serve-s.result.table.held (c.loop-out.used + c.in-Whole.end) c.serve-s.new.out (c.loop-out.written + c.serve-s.result.count)
+  on : Going c.args.last c.args.t.held c.args.input.now c.args.out.now c.serve-s.result.table.held (c.loop-out.used + c.in-Ok-Some.end) c.serve-s.new.out (c.loop-out.written + c.serve-s.result.count)
   on =
-      let G : Table → List ℕ → ℕ → Type 0 = λ t o n. Going c.args.last c.args.t.held c.args.input.now c.args.out.now t (c.loop-out.used + c.in-Whole.end) o n in
+      let G : Table → List ℕ → ℕ → Type 0 = λ t o n. Going c.args.last c.args.t.held c.args.input.now c.args.out.now t (c.loop-out.used + c.in-Ok-Some.end) o n in
       let same = c.loop-out.invariant.0 in
-      let g = going_frame c.args.last c.args.t.held c.args.input.now c.args.out.now c.loop-out.table.held c.loop-out.used c.loop-out.out c.loop-out.written c.loop-out.invariant.1 space c.in-Whole.end fr (omega (arith, fits, same)) in
+      let g = going_frame c.args.last c.args.t.held c.args.input.now c.args.out.now c.loop-out.table.held c.loop-out.used c.loop-out.out c.loop-out.written c.loop-out.invariant.1 space c.in-Ok-Some.end fr (omega (arith, fits, same)) in
       subst (λ t. G t c.serve-s.new.out (c.loop-out.written + c.serve-s.result.count)) (sym table_is)
       (subst (λ o. G (desk_body c.loop-out.table.held body).0 o (c.loop-out.written + c.serve-s.result.count)) (sym buffer_is)
       (subst (λ n. G (desk_body c.loop-out.table.held body).0 (laid c.loop-out.out c.loop-out.written line) (c.loop-out.written + n)) (sym count_is) g))
@@ -144,46 +144,46 @@ pub loop-out-init : goal.loop-out-init
 loop-out-init c = let a = c.args in (refl, going_start a.last a.t.held a.input.now a.out.now)
 
 pub slice_bounds-serve-end : goal.slice_bounds-serve-end
-slice_bounds-serve-end c = let w = goal.at.slice_bounds-serve-end c in let q = w.After-read_frame in let fr = frame w.In-Whole (answer q) in rw (rest q) fr.within
+slice_bounds-serve-end c = let w = goal.at.slice_bounds-serve-end c in let q = w.After-read_frame in let fr = frame w.In-Ok-Some (answer q) in rw (rest q) fr.within
 
 pub overflow_add-written : goal.overflow_add-written
 overflow_add-written c =
-    let w = goal.at.overflow_add-written c in let q = w.After-read_frame in let fr = frame w.In-Whole (answer q) in
+    let w = goal.at.overflow_add-written c in let q = w.After-read_frame in let fr = frame w.In-Ok-Some (answer q) in
     omega (arith, count_is w.After-serve-s fr (rest q), fits w.After-serve-s fr (rest q), wide q, c.loop-out.invariant.0)
 
 pub overflow_add-used : goal.overflow_add-used
 overflow_add-used c =
-    let w = goal.at.overflow_add-used c in let q = w.After-read_frame in let fr = frame w.In-Whole (answer q) in
-    omega (arith, within w.In-Whole (answer q), long q)
+    let w = goal.at.overflow_add-used c in let q = w.After-read_frame in let fr = frame w.In-Ok-Some (answer q) in
+    omega (arith, within w.In-Ok-Some (answer q), long q)
 
 pub loop-out-smaller : goal.loop-out-smaller
 loop-out-smaller c =
-    let w = goal.at.loop-out-smaller c in let q = w.After-read_frame in let fr = frame w.In-Whole (answer q) in
-    omega (arith, within w.In-Whole (answer q), fr.start)
+    let w = goal.at.loop-out-smaller c in let q = w.After-read_frame in let fr = frame w.In-Ok-Some (answer q) in
+    omega (arith, within w.In-Ok-Some (answer q), fr.start)
 
 pub loop-out-preserved : goal.loop-out-preserved
 loop-out-preserved c =
-    let w = goal.at.loop-out-preserved c in let q = w.After-read_frame in let fr = frame w.In-Whole (answer q) in
+    let w = goal.at.loop-out-preserved c in let q = w.After-read_frame in let fr = frame w.In-Ok-Some (answer q) in
     (c.serve-s.auto.out ∙ c.loop-out.invariant.0, on w.After-serve-s fr (rest q))
 
 pub returns-then-last-rest : goal.returns-then-last-rest
 returns-then-last-rest c =
     let q = (goal.at.returns-then-last-rest c).After-read_frame in
     let l = c.last_line in
-    let r = clauses (whole_turn q) (input q) (out q) _ _ _ _ _ (ending q (waits q true (sym (answer q) ∙ c.in-NotYet.is) c.if-last-rest.true)) (within_input q) l.result l.ensures.answer _ l.ensures.buffer (l.auto.out ∙ c.loop-out.invariant.0) in
+    let r = clauses (whole_turn q) (input q) (out q) _ _ _ _ _ (ending q (waits q true (sym (answer q) ∙ c.in-Ok-None.is ∙ ap Ok c.in-Ok-None.field-0-is) c.if-last-rest.true)) (within_input q) l.result l.ensures.answer _ l.ensures.buffer (l.auto.out ∙ c.loop-out.invariant.0) in
     record { table = r.0; used = r.1.0; written = r.1.1.0; over = r.1.1.1.0; buffer = r.1.1.1.1.0; within = r.1.1.1.1.1 }
 
-pub returns-in-NotYet : goal.returns-in-NotYet
-returns-in-NotYet c =
-    let q = (goal.at.returns-in-NotYet c).After-read_frame in
-    let r = clauses (whole_turn q) (input q) (out q) _ _ _ _ _ (stopping q (waits q false (sym (answer q) ∙ c.in-NotYet.is) c.if-last-rest.false)) (within_input q) _ refl _ refl c.loop-out.invariant.0 in
+pub returns-in-Ok-None : goal.returns-in-Ok-None
+returns-in-Ok-None c =
+    let q = (goal.at.returns-in-Ok-None c).After-read_frame in
+    let r = clauses (whole_turn q) (input q) (out q) _ _ _ _ _ (stopping q (waits q false (sym (answer q) ∙ c.in-Ok-None.is ∙ ap Ok c.in-Ok-None.field-0-is) c.if-last-rest.false)) (within_input q) _ refl _ refl c.loop-out.invariant.0 in
     record { table = r.0; used = r.1.0; written = r.1.1.0; over = r.1.1.1.0; buffer = r.1.1.1.1.0; within = r.1.1.1.1.1 }
 
-pub returns-in-Bad : goal.returns-in-Bad
-returns-in-Bad c =
-    let q = (goal.at.returns-in-Bad c).After-read_frame in
-    let l = c.last_line-in-Bad in
-    let r = clauses (whole_turn q) (input q) (out q) _ _ _ _ _ (ending q (turn_bad _ _ _ (room q) _ (sym (answer q) ∙ c.in-Bad.is))) (within_input q) l.result l.ensures.answer _ l.ensures.buffer (l.auto.out ∙ c.loop-out.invariant.0) in
+pub returns-in-Err : goal.returns-in-Err
+returns-in-Err c =
+    let q = (goal.at.returns-in-Err c).After-read_frame in
+    let l = c.last_line-in-Err in
+    let r = clauses (whole_turn q) (input q) (out q) _ _ _ _ _ (ending q (turn_bad _ _ _ (room q) _ _ (sym (answer q) ∙ c.in-Err.is))) (within_input q) l.result l.ensures.answer _ l.ensures.buffer (l.auto.out ∙ c.loop-out.invariant.0) in
     record { table = r.0; used = r.1.0; written = r.1.1.0; over = r.1.1.1.0; buffer = r.1.1.1.1.0; within = r.1.1.1.1.1 }
 
 pub returns : goal.returns

@@ -1,12 +1,12 @@
 -- `replies::calls::call` meets its contract: each request goes to the call that the desk makes of its message. Assumes nothing.
 use mathlib.Core.Path.{refl, ap, ◌∙◌}
-use Rattle.wire.specs.declared.reader.BodyAnswer.{BodyAnswer}
+use Rattle.std.proofs.Common.{Ok}
 use Rattle.replies.specs.Desk.{desk}
 use Rattle.replies.proofs.AskedLaws.{request_of_call, floors_of_request, handed}
 use Rattle.replies.proofs.calls.call.Goals as goal
 
 pub open-requires : goal.open-requires
-open-requires c = floors_of_request c.args.body.now _ _ (request_of_call c.args.body.now _ c.requires ∙ ap BodyAnswer.Request c.in-Opening.is)
+open-requires c = floors_of_request c.args.body.now _ _ (request_of_call c.args.body.now _ c.requires ∙ ap Ok c.in-Opening.is)
 
 pub returns-in-Opening : goal.returns-in-Opening
 unfolding desk
