@@ -10,11 +10,7 @@ use native.Mathlib.Omega.{arith}
 use lib.ListN.{length}
 use Rattle.frames.specs.Frame.{Bad, frame_of, EndsAt, body_to}
 use Rattle.frames.specs.Answer.{FrameMeans, frame_refusal}
-use Rattle.frames.specs.declared.FrameAnswer.{FrameAnswer}
-use Rattle.wire.specs.declared.reader.BodyAnswer.{BodyAnswer}
-use Rattle.wire.specs.declared.reader.ReadAnswer.{ReadAnswer}
 use Rattle.wire.specs.Meaning.{NoBody, BodyMeans, ReadMeans, body_refusal, read_refusal}
-use Rattle.sending.specs.declared.WriteAnswer as messages
 use Rattle.sending.specs.Meaning.{WriteMeans, write_refusal}
 use Rattle.refusals.specs.declared.Refusal.{Refusal}
 use Rattle.refusals.specs.Numbers.{told_by}

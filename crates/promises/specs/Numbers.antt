@@ -5,11 +5,7 @@ use Rattle.std.proofs.Math.Option.{some}
 use Rattle.endian.specs.Places.{Below}
 use Rattle.frames.specs.Frame.{Bad, EndsAt, body_to, frame_of}
 use Rattle.frames.specs.Answer.{frame_refusal}
-use Rattle.frames.specs.declared.FrameAnswer.{FrameAnswer}
-use Rattle.wire.specs.declared.reader.BodyAnswer.{BodyAnswer}
-use Rattle.wire.specs.declared.reader.ReadAnswer.{ReadAnswer}
 use Rattle.wire.specs.Meaning.{NoBody, body_refusal, read_refusal}
-use Rattle.sending.specs.declared.WriteAnswer as messages
 use Rattle.sending.specs.Meaning.{write_refusal}
 use Rattle.refusals.specs.declared.Refusal.{Refusal}
 use Rattle.refusals.specs.Numbers.{told_by}

@@ -4,7 +4,6 @@ use Rattle.std.specs.Prelude.{◌≡◌, Bool, List, ℕ, Option, Result}
 use Rattle.paths.specs.Paths.{TellsCycle, TellsReached}
 use Rattle.kept.specs.Aligned.{Aligned}
 use Rattle.refusals.specs.declared.Refusal.{Refusal}
-use Rattle.sending.specs.declared.WriteAnswer as messages
 use Rattle.lines.specs.declared.Words.{Words}
 use Rattle.method.specs.declared.Answer.{Answer}
 use Rattle.method.specs.declared.Table as method
