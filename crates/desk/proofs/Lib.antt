@@ -1,2 +1,1 @@
 mod RangeLaws
-mod ServedLaws

@@ -1,6 +1,7 @@
 -- Every public contract leaves one result. Assumes nothing.
 use mathlib.Core.Path.{◌≡◌, sym, ◌∙◌}
 use Prim.Native.Nat.{ℕ}
+use Rattle.std.specs.Prelude.{Option}
 use Rattle.paths.proofs.AnswerLaws.{cycle_answer_unique, reached_answer_unique}
 use Rattle.kept.proofs.OneListLaws.{aligned_unique}
 use Rattle.orders.proofs.ReplyLaws.{write_reply_injective, check_answer_unique}
@@ -22,7 +23,7 @@ replied_is : (a b : Replied) → a.table ≡ b.table → a.spoken ≡ b.spoken �
 unfolding replied_of
 replied_is a b p q = let e : replied_of a.table a.spoken ≡ replied_of b.table b.spoken = cc in e
 
-served_of : Table → ℕ → Served
+served_of : Table → Option ℕ → Served
 served_of t n = record { table = t; count = n }
 
 served_is : (a b : Served) → a.table ≡ b.table → a.count ≡ b.count → a ≡ b

@@ -66,7 +66,7 @@ pub record RefusedKeeps : Type 0 where
   pub messages : (b out : List ℕ) (place : ℕ) (r : Result ℕ Refusal) (after : List ℕ) → MessageGives b out place r after → (k : ℕ) → told_by r ≡ Some k → after ≡ out
   -- where the longest line would not fit nothing is served
   pub roomless : (t : Table) (b out : List ℕ) (place : ℕ) (r : Served) (after : List ℕ) → ServeGives t b out place r after → length out < place + 358
-      → (r.table ≡ t) × (r.count ≡ 0) × (after ≡ out)
+      → (r.table ≡ t) × (r.count ≡ None) × (after ≡ out)
   -- and a message of the service that is answered with a refusal leaves its table
   pub served : (t : method.Table) (b : List ℕ) (k : ℕ) → (desk_body t b).1 ≡ refused_line k → (desk_body t b).0 ≡ t
 

@@ -18,7 +18,7 @@ use Rattle.replies.specs.Desk.{desk_body}
 use Rattle.desk.specs.Served.{served_table, served_count, served_out, bytes_for}
 
 pub served_room : (t : Table) (b out : List ℕ) (place : ℕ) → place + 358 ≤ length out
-    → (served_table t b out place ≡ (desk_body t b).0) × (served_count t b out place ≡ length (bytes_for t b)) × (served_out t b out place ≡ laid out place (bytes_for t b))
+    → (served_table t b out place ≡ (desk_body t b).0) × (served_count t b out place ≡ Some (length (bytes_for t b))) × (served_out t b out place ≡ laid out place (bytes_for t b))
 served_room t b out place h = let e = le-leb (place + 358) (length out) h in (rw e, rw e, rw e)
 
 -- the last line, where there is room

@@ -56,7 +56,7 @@ pub fn take_turn(t: Table, input: &[u8], last: bool, out: &mut [u8]) -> Turn
             Ok(Some(end)) => {
                 let s = desk::serve(table, &rest[3..end], out, written);
                 table = s.table;
-                written += s.count;
+                written += s.count.unwrap();
                 used += end;
             }
             Ok(None) => {

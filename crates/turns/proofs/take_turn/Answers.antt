@@ -5,6 +5,8 @@ use mathlib.Core.Bool.{Bool, true, false, cond, not, ◌&&◌}
 use mathlib.Core.List.{List}
 use Prim.Native.Nat.{ℕ, ◌+◌, ◌-◌, ◌^◌, ◌<◌, ◌≤◌}
 use native.Mathlib.Omega.{arith}
+use Rattle.std.proofs.Common.{rules}
+use Rattle.std.specs.Prelude.{Some}
 use lib.Dec.{eqb}
 use lib.ListN.{length, take, drop, length-drop}
 use Rattle.endian.proofs.PartLaws.{part_is}
@@ -116,11 +118,14 @@ module _ (c : After-serve-s) (fr : EndsAt c.in-Ok-Some.end (drop c.loop-out.used
       ∙ ap (λ b. served_table c.loop-out.table.held b c.loop-out.out c.loop-out.written) body_is
       ∙ (served_room c.loop-out.table.held body c.loop-out.out c.loop-out.written roomy).0
 
-  count_is : c.serve-s.result.count ≡ length line
+  count_is : c.serve-s.result.count ≡ Some (length line)
   count_is =
       c.serve-s.ensures.count
       ∙ ap (λ b. served_count c.loop-out.table.held b c.loop-out.out c.loop-out.written) body_is
       ∙ (served_room c.loop-out.table.held body c.loop-out.out c.loop-out.written roomy).1
+
+  written_is : (n : ℕ) → c.serve-s.result.count ≡ Some n → n ≡ length line
+  written_is n e = cc (e, count_is)
 
   buffer_is : c.serve-s.new.out ≡ laid c.loop-out.out c.loop-out.written line
   buffer_is =
@@ -131,14 +136,14 @@ module _ (c : After-serve-s) (fr : EndsAt c.in-Ok-Some.end (drop c.loop-out.used
   fits : c.loop-out.written + length line ≤ length c.loop-out.out
   fits = laid_fits c.loop-out.out line c.loop-out.written (omega (arith, roomy)) (ap length (sym buffer_is) ∙ c.serve-s.auto.out)
 
-  on : Going c.args.last c.args.t.held c.args.input.now c.args.out.now c.serve-s.result.table.held (c.loop-out.used + c.in-Ok-Some.end) c.serve-s.new.out (c.loop-out.written + c.serve-s.result.count)
-  on =
+  on : (n : ℕ) → n ≡ length line → Going c.args.last c.args.t.held c.args.input.now c.args.out.now c.serve-s.result.table.held (c.loop-out.used + c.in-Ok-Some.end) c.serve-s.new.out (c.loop-out.written + n)
+  on n count =
       let G : Table → List ℕ → ℕ → Type 0 = λ t o n. Going c.args.last c.args.t.held c.args.input.now c.args.out.now t (c.loop-out.used + c.in-Ok-Some.end) o n in
       let same = c.loop-out.invariant.0 in
       let g = going_frame c.args.last c.args.t.held c.args.input.now c.args.out.now c.loop-out.table.held c.loop-out.used c.loop-out.out c.loop-out.written c.loop-out.invariant.1 space c.in-Ok-Some.end fr (omega (arith, fits, same)) in
-      subst (λ t. G t c.serve-s.new.out (c.loop-out.written + c.serve-s.result.count)) (sym table_is)
-      (subst (λ o. G (desk_body c.loop-out.table.held body).0 o (c.loop-out.written + c.serve-s.result.count)) (sym buffer_is)
-      (subst (λ n. G (desk_body c.loop-out.table.held body).0 (laid c.loop-out.out c.loop-out.written line) (c.loop-out.written + n)) (sym count_is) g))
+      subst (λ t. G t c.serve-s.new.out (c.loop-out.written + n)) (sym table_is)
+      (subst (λ o. G (desk_body c.loop-out.table.held body).0 o (c.loop-out.written + n)) (sym buffer_is)
+      (subst (λ m. G (desk_body c.loop-out.table.held body).0 (laid c.loop-out.out c.loop-out.written line) (c.loop-out.written + m)) (sym count) g))
 
 pub loop-out-init : goal.loop-out-init
 loop-out-init c = let a = c.args in (refl, going_start a.last a.t.held a.input.now a.out.now)
@@ -146,10 +151,15 @@ loop-out-init c = let a = c.args in (refl, going_start a.last a.t.held a.input.n
 pub slice_bounds-serve-end : goal.slice_bounds-serve-end
 slice_bounds-serve-end c = let w = goal.at.slice_bounds-serve-end c in let q = w.After-read_frame in let fr = frame w.In-Ok-Some (answer q) in rw (rest q) fr.within
 
+pub unwrap-written-requires : goal.unwrap-written-requires
+unwrap-written-requires c =
+    let w = goal.at.unwrap-written-requires c in let q = w.After-read_frame in let fr = frame w.In-Ok-Some (answer q) in
+    let e = count_is w.After-serve-s fr (rest q) in search (rules, e)
+
 pub overflow_add-written : goal.overflow_add-written
 overflow_add-written c =
     let w = goal.at.overflow_add-written c in let q = w.After-read_frame in let fr = frame w.In-Ok-Some (answer q) in
-    omega (arith, count_is w.After-serve-s fr (rest q), fits w.After-serve-s fr (rest q), wide q, c.loop-out.invariant.0)
+    omega (arith, written_is w.After-serve-s fr (rest q) c.unwrap-written.result c.unwrap-written.ensures, fits w.After-serve-s fr (rest q), wide q, c.loop-out.invariant.0)
 
 pub overflow_add-used : goal.overflow_add-used
 overflow_add-used c =
@@ -164,7 +174,7 @@ loop-out-smaller c =
 pub loop-out-preserved : goal.loop-out-preserved
 loop-out-preserved c =
     let w = goal.at.loop-out-preserved c in let q = w.After-read_frame in let fr = frame w.In-Ok-Some (answer q) in
-    (c.serve-s.auto.out ∙ c.loop-out.invariant.0, on w.After-serve-s fr (rest q))
+    (c.serve-s.auto.out ∙ c.loop-out.invariant.0, on w.After-serve-s fr (rest q) c.unwrap-written.result (written_is w.After-serve-s fr (rest q) c.unwrap-written.result c.unwrap-written.ensures))
 
 pub returns-then-last-rest : goal.returns-then-last-rest
 returns-then-last-rest c =
