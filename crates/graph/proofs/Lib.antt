@@ -18,4 +18,3 @@ pub mod PartsLaws
 pub mod ReachedLaws
 pub mod CheckLaws
 pub mod FullLaws
-pub mod SearchLaws
