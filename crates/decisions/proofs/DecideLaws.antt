@@ -5,7 +5,8 @@ use mathlib.Core.List.{List, ◌∷◌, map}
 use Prim.Native.Nat.{ℕ, ◌<◌}
 use lib.ListN.{length}
 use Rattle.graph.specs.Acyclic.{acyclic}
-use Rattle.orders.specs.Arrow.{arrowb}
+use Rattle.std.specs.Prelude.{Some}
+use Rattle.orders.specs.Arrow.{Tickets, arrowb}
 use Rattle.paths.specs.Paths.{TellsCycle}
 use Rattle.paths.proofs.SlottedLaws.{acyclic_of_answer}
 use Rattle.method.specs.declared.Table.{Table}
@@ -17,9 +18,9 @@ use Rattle.kept.specs.Aligned.{Aligned}
 use Rattle.kept.proofs.AlignedLaws.{In, slotted_with}
 use Rattle.decisions.specs.Ways.{committing, cancelling}
 
-module _ (t : Table) (l : length t.rows ≡ 32) (n i : ℕ) (slot : i ≡ slot_of t n) (inside : i < 32) (flat : List ℕ) (al : Aligned t i flat) (b : Bool) (tells : TellsCycle flat b) where
+module _ (t : Table) (l : length t.rows ≡ 32) (n i : ℕ) (slot : i ≡ slot_of t n) (inside : i < 32) (slots : List Tickets) (al : Aligned t (Some i) slots) (b : Bool) (tells : TellsCycle slots b) where
   verdict : acyclic arrowb (tickets_of (row_at t i) ∷ map tickets_of (kept t)) ≡ not b
-  verdict = acyclic_of_answer tickets_of (row_at t i ∷ kept t) (In t i) flat (slotted_with t l i inside flat al) b tells
+  verdict = acyclic_of_answer tickets_of (row_at t i ∷ kept t) (In t (Some i)) slots (slotted_with t l i inside slots al) b tells
 
   goes : effect t (decide n) ≡ decided t n (not b)
   unfolding effect

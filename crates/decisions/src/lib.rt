@@ -48,8 +48,8 @@ pub fn decide(t: Table, n: Number) -> Answered<Table>
     match ready(&t, n) {
         Err(r) => records::refuse(t, r),
         Ok(slot) => {
-            let flat = kept::aligned::tickets(t, slot);
-            if paths::has_cycle(flat) {
+            let tickets = kept::aligned::tickets(&t, Some(slot));
+            if paths::has_cycle(&tickets) {
                 return records::without(t, slot, Answer::Cycle(n));
             }
             commit(t, slot, n)

@@ -1,38 +1,25 @@
 // The tickets of the kept rows aligned with the slots, for the graph. RULES, Graph and decision.
-ghost use Rattle.std.specs.Prelude.{◌≡◌, ◌<◌, length};
-ghost use Rattle.kept.specs.Aligned.{Aligned, RowLaid};
+ghost use Rattle.std.specs.Prelude.{◌≡◌, ◌<◌};
+ghost use Rattle.kept.specs.Aligned.{Aligned, aligned_row};
 
-use method::{Row, Table};
+use method::{State, Table};
+use std::array;
 
-// Lays the eight tickets of a row from entry 8 i on. A row has eight sites by its type; said here, for callers.
-fn lay_tickets(flat: &mut [u32; 256], i: usize, row: Row)
-    requires { (i < 32) × (length flat.old ≡ 256) }
-    ensures flat { RowLaid flat.old i row 8 flat.new }
-    ensures whole { length row.parts ≡ 8 }
+// Eight tickets a slot, zeros for a slot that takes no part: the committed rows do, and the row in the slot `chosen` does.
+pub fn tickets(t: &Table, chosen: Option<usize>) -> [[u32; 8]; 32]
+    ensures answer { Aligned t.now chosen result }
 {
-    let mut s: usize = 0;
-    while s < 8 {
-        let p = row.parts[s];
-        let k = p.ticket;
-        flat[8 * i + s] = k.0;
-        s += 1;
-    }
-}
-
-// Eight tickets a slot, zeros for a slot that takes no part: the committed rows do, and the row in slot `chosen` does
-// (32 chooses none).
-pub fn tickets(t: Table, chosen: usize) -> [u32; 256]
-    ensures answer { Aligned t chosen result }
-{
-    let mut flat = [0; 256];
-    let mut i: usize = 0;
-    while i < 32 {
-        let row = t.rows[i];
-        let state = row.state;
-        if (i == chosen) | records::is_committed(state) {
-            lay_tickets(&mut flat, i, row);
-        }
-        i += 1;
-    }
-    flat
+    array::from_fn(
+        |i|
+            requires { i < 32 }
+            ensures { result ≡ aligned_row t.entry.now chosen i }
+        {
+            let row = &t.rows[i];
+            if chosen == Some(i) || row.state == State::Committed {
+                records::tickets_of(row)
+            } else {
+                [0; 8]
+            }
+        },
+    )
 }

@@ -1,54 +1,34 @@
 // The kept rows packed one behind the other by slot, as a ticket table for orders. RULES, Orders.
-ghost use Rattle.std.specs.Prelude.{◌≡◌, ◌+◌, ◌*◌, ◌<◌, ◌≤◌, length};
-ghost use Rattle.endian.specs.Laid.{laid};
-ghost use Rattle.method.specs.Slots.{kept_flat};
-ghost use Rattle.kept.specs.Packed.{entries, grown, packed_of};
+ghost use Rattle.std.specs.Prelude.{◌≡◌, ◌*◌, length};
+ghost use Rattle.graph.specs.Lists.{keep};
+ghost use Rattle.method.specs.Records.{committed};
+ghost use Rattle.method.specs.Slots.{kept, kept_flat};
+ghost use Rattle.kept.specs.Packed.{flat};
 
-use method::{Row, Table};
+use arrayvec::ArrayVec;
+use method::{Row, SLOTS, State, Table};
 
-// How many kept rows there are, and nine entries of each; zeros behind them.
-#[derive(Drop)]
-pub struct Kept {
-    pub count: usize,
-    pub rows: [u32; 288],
-}
-
-// Lays one row's nine entries from the place on. A row has eight sites by its type; said here, for callers.
-fn lay_entries(flat: &mut [u32; 288], at: usize, row: Row)
-    requires { (length flat.old ≡ 288) × (at + 9 ≤ 288) }
-    ensures flat { flat.new ≡ laid flat.old at (entries row) }
-    ensures size { length flat.new ≡ 288 }
-    ensures whole { length row.parts ≡ 8 }
+fn packed(rows: &[Row; SLOTS]) -> ArrayVec<u32, 288>
+    ensures items { result.items ≡ flat rows.now }
+    ensures whole { length (flat rows.now) ≡ 9 * length (keep committed rows.now) }
 {
-    let number = row.number;
-    flat[at] = number.0;
-    let mut s: usize = 0;
-    while s < 8 {
-        let p = row.parts[s];
-        let k = p.ticket;
-        flat[at + 1 + s] = k.0;
-        s += 1;
-    }
-}
-
-pub fn rows(t: Table) -> Kept
-    ensures answer { result ≡ packed_of t }
-    ensures whole { length (kept_flat t) ≡ 9 * result.count }
-{
-    let mut rows = [0; 288];
-    let mut n: usize = 0;
-    let mut i: usize = 0;
-    while i < 32 {
-        let row = t.rows[i];
-        let state = row.state;
-        if records::is_committed(state) {
-            lay_entries(&mut rows, 9 * n, row);
-            n += 1;
+    let mut entries = ArrayVec::new();
+    for row in rows {
+        if row.state == State::Committed {
+            entries.push(row.number.0);
+            entries
+                .try_extend_from_slice(&records::tickets_of(row))
+                .unwrap();
         }
-        i += 1;
     }
-    Kept {
-        count: n,
-        rows: rows,
-    }
+    entries
+}
+
+// Nine entries of each kept row: its number, and its ticket at each site.
+#[tactic(auto, unfolding(method::specs::Slots::kept))]
+pub fn rows(t: &Table) -> ArrayVec<u32, 288>
+    ensures items { result.items ≡ kept_flat t.now }
+    ensures whole { length (kept_flat t.now) ≡ 9 * length (kept t.now) }
+{
+    packed(&t.rows)
 }

@@ -8,6 +8,7 @@ use native.Mathlib.Decide.{ℕ_discrete}
 use native.Mathlib.Omega.{arith}
 use lib.ListN.{length, get_or}
 use Rattle.graph.proofs.TestLaws.{true_not_false, either_of_or, or_of_left, or_of_right}
+use Rattle.orders.specs.Arrow.{Tickets}
 use Rattle.paths.specs.Paths.{Marked, SlotReached, TellsReached}
 use Rattle.paths.specs.Entries.{entry, PathSquare, FoundFrom, FoundBelow}
 
@@ -50,14 +51,14 @@ module _ (marks : List Bool) (square : List (List Bool)) where
       back : (j : ℕ) → j < 32 → FoundFrom marks square (n + 1) j → Marked found j
       back j l f = elim (found_of_more n j f) [ inl g ↦ (b.each j l).1 g | inr p ↦ absurd (true_not_false p.0 u) ]
 
-  pub reached_of_all : {found : List Bool} {n : ℕ} (flat : List ℕ) → PathSquare flat square → n ≤ 32 → 32 ≤ n
-      → FoundBelow marks square n found → TellsReached flat marks found
-  reached_of_all {n} flat paths u v b = record { size = b.size; each = λ j l. (λ e. there j l ((b.each j l).0 e), λ r. (b.each j l).1 (back j l r)) }
+  pub reached_of_all : {found : List Bool} {n : ℕ} (slots : List Tickets) → PathSquare slots square → n ≤ 32 → 32 ≤ n
+      → FoundBelow marks square n found → TellsReached slots marks found
+  reached_of_all {n} slots paths u v b = record { size = b.size; each = λ j l. (λ e. there j l ((b.each j l).0 e), λ r. (b.each j l).1 (back j l r)) }
     where
-      there : (j : ℕ) → j < 32 → FoundFrom marks square n j → SlotReached flat marks j
+      there : (j : ℕ) → j < 32 → FoundFrom marks square n j → SlotReached slots marks j
       there j l (inl m) = inl m
       there j l (inr (i, h, m, e)) = let g : i < 32 = omega arith in inr (i, g, m, (paths i j g l).0 e)
 
-      back : (j : ℕ) → j < 32 → SlotReached flat marks j → FoundFrom marks square n j
+      back : (j : ℕ) → j < 32 → SlotReached slots marks j → FoundFrom marks square n j
       back j l (inl m) = inl m
       back j l (inr (i, h, m, p)) = inr (i, omega arith, m, (paths i j h l).1 p)

@@ -1,20 +1,12 @@
 -- What the functions inside this crate say of their rows and squares of yes-no entries. No public contract cites it.
 use Rattle.std.specs.Prelude.{◌≡◌, Bool, true, false, ◌&&◌, ◌||◌, List, [], ◌↔◌, ◌⊎◌, ℕ, ◌<◌, length, get_or}
 use Rattle.graph.specs.Reach.{edge_of, reach}
-use Rattle.orders.specs.Arrow.{ticket_at, arrowb}
-use Rattle.paths.specs.Paths.{ticket_row, ticket_rows, SlotPath, Marked}
-
--- slot i holds no ticket
-abbrev pub Blank : List ℕ → ℕ → Type 0
-Blank flat i = (s : ℕ) → ticket_at (ticket_row flat i) s ≡ 0
-
--- only blank slots are left out: what is skipped changes no answer
-abbrev pub Covers : List Bool → List ℕ → Type 0
-Covers held flat = (i : ℕ) → i < 32 → get_or held i false ≡ false → Blank flat i
+use Rattle.orders.specs.Arrow.{Tickets, arrowb}
+use Rattle.paths.specs.Paths.{SlotPath, Marked}
 
 -- an arrow goes from slot i to slot j, as a test
-abbrev pub slot_arrow : List ℕ → ℕ → ℕ → Bool
-slot_arrow flat = edge_of arrowb (ticket_rows flat) []
+abbrev pub slot_arrow : List Tickets → ℕ → ℕ → Bool
+slot_arrow slots = edge_of arrowb slots []
 
 -- a row, and a square, that holds f of each place
 abbrev pub RowIs : (ℕ → Bool) → List Bool → Type 0
@@ -32,12 +24,12 @@ abbrev pub over : List (List Bool) → ℕ → ℕ → ℕ → Bool
 over square k i j = entry square i j || (entry square i k && entry square k j)
 
 -- the square of arrows after the steps of the slots below k
-abbrev pub After : List ℕ → ℕ → List (List Bool) → Type 0
-After flat k square = SquareIs (reach (slot_arrow flat) k) square
+abbrev pub After : List Tickets → ℕ → List (List Bool) → Type 0
+After slots k square = SquareIs (reach (slot_arrow slots) k) square
 
 -- entry i, j is yes exactly if a path leads from slot i to slot j
-abbrev pub PathSquare : List ℕ → List (List Bool) → Type 0
-PathSquare flat square = (i j : ℕ) → i < 32 → j < 32 → (entry square i j ≡ true) ↔ SlotPath flat i j
+abbrev pub PathSquare : List Tickets → List (List Bool) → Type 0
+PathSquare slots square = (i j : ℕ) → i < 32 → j < 32 → (entry square i j ≡ true) ↔ SlotPath slots i j
 
 -- marked, or with a yes from a marked slot below n
 abbrev pub FoundFrom : List Bool → List (List Bool) → ℕ → ℕ → Type 0

@@ -1,4 +1,3 @@
 pub mod Paths
 pub mod Entries
-pub mod Passed
 pub mod Slotted

@@ -3,49 +3,38 @@ ghost use Rattle.std.specs.Prelude.{◌≡◌, false, ◌||◌, ◌<◌, length,
 ghost use Rattle.paths.specs.Entries.{RowIs, SquareIs, over, PathSquare};
 
 use crate::arrows::square_of;
-use crate::slots::holders;
+use std::array;
 
-// Yes where either row has one. The loop has no branch, so that the compiler can take many entries at once.
-pub(crate) fn joined(a: [bool; 32], b: [bool; 32]) -> [bool; 32]
+// Yes where either row has one. There is no branch, so that the compiler can take many entries at once.
+pub(crate) fn joined(a: &[bool; 32], b: &[bool; 32]) -> [bool; 32]
     ensures size { length result ≡ 32 }
-    ensures each { RowIs (λ j. get_or a j false || get_or b j false) result }
+    ensures each { RowIs (λ j. get_or a.now j false || get_or b.now j false) result }
 {
-    let mut row = [false; 32];
-    let mut j: usize = 0;
-    while j < 32 {
-        row[j] = a[j] | b[j];
-        j += 1;
-    }
-    row
+    array::from_fn(|j| a[j] | b[j])
 }
 
 // Step k: every row with a yes at k gets what row k has. The step leaves row k as it is, so one copy serves all rows.
 pub(crate) fn step_over(square: &mut [[bool; 32]; 32], k: usize)
-    requires { (k < 32) × (length square.old ≡ 32) }
+    requires { k < 32 }
     ensures square { SquareIs (over square.old k) square.new }
 {
     let next = square[k];
-    let mut i: usize = 0;
-    while i < 32 {
-        if square[i][k] {
-            square[i] = joined(square[i], next);
+    for row in square.iter_mut() {
+        if row[k] {
+            *row = joined(row, &next);
         }
-        i += 1;
     }
 }
 
 // Which slot has a path to which. A slot without a ticket has no arrows, so its step would change nothing.
-pub(crate) fn paths(tickets: &[u32; 256]) -> [[bool; 32]; 32]
+pub(crate) fn paths(tickets: &[[u32; 8]; 32]) -> [[bool; 32]; 32]
     ensures answer { PathSquare tickets.now result }
 {
-    let held = holders(tickets);
-    let mut square = square_of(tickets, held);
-    let mut k: usize = 0;
-    while k < 32 {
-        if held[k] {
+    let mut square = square_of(tickets);
+    for (k, own) in tickets.iter().enumerate() {
+        if *own != [0; 8] {
             step_over(&mut square, k);
         }
-        k += 1;
     }
     square
 }

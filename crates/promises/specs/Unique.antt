@@ -1,6 +1,7 @@
 -- Demand 1, its word `one`: two results that meet the contract of a public function are equal, table and lent memory too.
 -- proofs/ProvedUnique.antt has the proof.
 use Rattle.std.specs.Prelude.{◌≡◌, Bool, List, ℕ, Option, Result}
+use Rattle.orders.specs.Arrow.{Tickets}
 use Rattle.paths.specs.Paths.{TellsCycle, TellsReached}
 use Rattle.kept.specs.Aligned.{Aligned}
 use Rattle.refusals.specs.declared.Refusal.{Refusal}
@@ -32,6 +33,6 @@ pub record Unique : Type 0 where
   pub turn : (t : Table) (input : List ℕ) (last : Bool) (out : List ℕ) (a b : Turn) (k l : List ℕ) → TurnGives t input last out a k → TurnGives t input last out b l → (a ≡ b) × (k ≡ l)
   -- contracts that say it in other ways: checker::check, paths::has_cycle, paths::reached and kept::aligned
   pub check : (flat o : List ℕ) (a b : Result Bool Refusal) → CheckGives flat o a → CheckGives flat o b → a ≡ b
-  pub cycle : (tickets : List ℕ) (a b : Bool) → TellsCycle tickets a → TellsCycle tickets b → a ≡ b
-  pub reached : (tickets : List ℕ) (marks a b : List Bool) → TellsReached tickets marks a → TellsReached tickets marks b → a ≡ b
-  pub aligned : (t : method.Table) (chosen : ℕ) (a b : List ℕ) → Aligned t chosen a → Aligned t chosen b → a ≡ b
+  pub cycle : (tickets : List Tickets) (a b : Bool) → TellsCycle tickets a → TellsCycle tickets b → a ≡ b
+  pub reached : (tickets : List Tickets) (marks a b : List Bool) → TellsReached tickets marks a → TellsReached tickets marks b → a ≡ b
+  pub aligned : (t : method.Table) (chosen : Option ℕ) (a b : List Tickets) → Aligned t chosen a → Aligned t chosen b → a ≡ b

@@ -1,3 +1,2 @@
-mod PartLaws
 mod AnswerLaws
 pub mod SaidLaws

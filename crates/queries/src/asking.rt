@@ -9,23 +9,17 @@ use refusals::Refusal;
 use table::Table;
 
 // Is it an order of the kept rows?
-pub(crate) fn check_kept(t: Table, order: &[u32]) -> Result<bool, Refusal>
-    ensures answer { check_reply result ≡ check_result (kept_flat t.held) order.now }
+pub(crate) fn check_kept(t: &Table, order: &[u32]) -> Result<bool, Refusal>
+    ensures answer { check_reply result ≡ check_result (kept_flat t.now.held) order.now }
 {
-    let k = table::kept_rows(t);
-    let end = 9 * k.count;
-    let rows = k.rows;
-    checker::check(&rows[..end], order)
+    checker::check(&table::kept_rows(t), order)
 }
 
 // Writes an order of them at the front, as `writer::write` does. There are at most 32 by the table's type; said here, for callers.
-pub(crate) fn write_kept(t: Table, out: &mut [u32]) -> Result<usize, Refusal>
-    ensures answer { write_reply result ≡ (write_result (kept_flat t.held) 0 out.old).0 }
-    ensures buffer { out.new ≡ (write_result (kept_flat t.held) 0 out.old).1 }
-    ensures few { length (kept_flat t.held) ≤ 288 }
+pub(crate) fn write_kept(t: &Table, out: &mut [u32]) -> Result<usize, Refusal>
+    ensures answer { write_reply result ≡ (write_result (kept_flat t.now.held) 0 out.old).0 }
+    ensures buffer { out.new ≡ (write_result (kept_flat t.now.held) 0 out.old).1 }
+    ensures few { length (kept_flat t.now.held) ≤ 288 }
 {
-    let kept = table::kept_rows(t);
-    let end = 9 * kept.count;
-    let rows = kept.rows;
-    writer::write(&rows[..end], 0, out)
+    writer::write(&table::kept_rows(t), 0, out)
 }

@@ -69,7 +69,7 @@ fn judged(a: Result<bool, Refusal>) -> Words
 pub fn judge(t: Table, numbers: &[u32]) -> Spoken
     ensures answer { result ≡ spoken_of (if_open t.held (proposal_line (kept_flat t.held) numbers.now)) }
 {
-    let words = judged(check_kept(t, numbers));
+    let words = judged(check_kept(&t, numbers));
     if_open(t, speak(words))
 }
 
@@ -89,7 +89,7 @@ pub fn give(t: Table) -> Spoken
     ensures answer { result ≡ spoken_of (if_open t.held (order_line (kept_flat t.held))) }
 {
     let mut numbers: [u32; 32] = [0; 32];
-    let a = write_kept(t, &mut numbers);
+    let a = write_kept(&t, &mut numbers);
     let said = written(a);
     let s = Spoken {
         said: said,

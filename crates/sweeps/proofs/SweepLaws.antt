@@ -2,22 +2,26 @@
 use mathlib.Core.Path.{◌≡◌, refl, sym, ap, ◌∙◌}
 use mathlib.Core.Bool.{Bool, true, false, not, cond, ◌&&◌}
 use mathlib.Core.List.{List, [], ◌∷◌, map, ◌++◌, append-nil}
-use mathlib.Core.Logic.{◌↔◌, inl, inr}
+use mathlib.Core.Logic.{◌↔◌}
 use Prim.Native.Nat.{ℕ, zero, suc, ◌+◌, ◌<◌, ◌≤◌}
 use native.Mathlib.Omega.{arith}
-use native.Mathlib.Numerals.{add-one}
-use lib.Dec.{eqb}
 use lib.ListN.{length, get_or, set, take, drop, drop_of_length-le}
-use lib.Seq.{take_all}
+use lib.Seq.{take_all, length-take-le}
 use borrow.Author.Tests.{eqb-true, eq-eqb, ne_eqb}
 use Rattle.std.specs.Prelude.{Ok, Err}
 use Rattle.refusals.specs.declared.Refusal.{Refusal}
 use Rattle.graph.proofs.TestLaws.{or_of_right, either_of_or, and_of_both, both_of_and, same_of_iff}
+use Rattle.std.proofs.lemmas.List.{get_or_default}
+use Rattle.std.proofs.lemmas.List.Edits.{map_over_more}
+use Rattle.std.proofs.lemmas.List.Filters.{length-filter_more}
+use Rattle.graph.proofs.MemberLaws.{length_keep_le}
 use Rattle.graph.proofs.LeftLaws.{keep_keep}
+use Rattle.std.specs.Prelude.{None}
+use Rattle.orders.specs.Arrow.{Tickets}
 use Rattle.paths.specs.Paths.{Marked, TellsReached}
 use Rattle.paths.specs.Slotted.{MarkedAs}
 use Rattle.paths.proofs.SlottedLaws.{reached_of_answer}
-use Rattle.kept.specs.Aligned.{takes_part, Aligned}
+use Rattle.kept.specs.Aligned.{Aligned}
 use Rattle.kept.proofs.AlignedLaws.{In, slotted_kept}
 use Rattle.graph.specs.Lists.{keep}
 use Rattle.method.specs.declared.Row.{Row}
@@ -32,89 +36,63 @@ use Rattle.method.specs.Calls.{checks}
 use Rattle.method.proofs.CheckLaws.{refused_step, passed_step}
 use Rattle.method.proofs.ConditionLaws.{held_back_iff}
 use Rattle.method.proofs.GraphLaws.{stays_iff}
-use Rattle.sweeps.specs.Marks.{goes, HeldMarks, StayMarks}
-
-module _ (r : Row) where
-  pub goes_of_true : (b : Bool) → b ≡ true → false ≡ goes r b
-  goes_of_true b e = go (committed r) b e
-    where
-      go : (a b : Bool) → b ≡ true → false ≡ a && not b
-      go true b e = rw e
-      go false b e = refl
-
-  pub goes_of_false : (b : Bool) → b ≡ false → committed r ≡ goes r b
-  goes_of_false b e = go (committed r) b e
-    where
-      go : (a b : Bool) → b ≡ false → a ≡ a && not b
-      go true b e = rw e
-      go false b e = refl
-
-module _ {A : Type 0} (f : A → A) (d : A) where
-  -- the first i of a list replaced, one by one
-  abbrev pub replaced : List A → ℕ → List A
-  replaced rows i = map f (take i rows) ++ drop i rows
-
-  next : (rows : List A) (i : ℕ) → i < length rows → set (replaced rows i) i (f (get_or rows i d)) ≡ replaced rows (suc i)
-  next [] i h = absurd (omega arith)
-  next (x ∷ xs) zero h = refl
-  next (x ∷ xs) (suc i) h = ap {B = List A} (λ l. f x ∷ l) (next xs i (omega arith))
-
-  pub replaced_more : (rows : List A) (i : ℕ) → i < length rows → set (replaced rows i) i (f (get_or rows i d)) ≡ replaced rows (i + 1)
-  replaced_more rows i h = rw (add-one i) (next rows i h)
-
-module _ {A : Type 0} (p : A → Bool) (d : A) where
-  -- how many of the first i pass
-  abbrev pub passing : List A → ℕ → ℕ
-  passing rows i = length (keep p (take i rows))
-
-  further : (rows : List A) (i : ℕ) → i < length rows → passing rows (suc i) ≡ passing rows i + cond (p (get_or rows i d)) 1 0
-  further [] i h = absurd (omega arith)
-  further (x ∷ xs) zero h = go (p x)
-    where
-      go : (b : Bool) → length (cond b (x ∷ []) []) ≡ 0 + cond b 1 0
-      go true = refl
-      go false = refl
-  further (x ∷ xs) (suc i) h = go (p x) (further xs i (omega arith))
-    where
-      go : (b : Bool) → passing xs (suc i) ≡ passing xs i + cond (p (get_or xs i d)) 1 0
-          → length (cond b (x ∷ keep p (take (suc i) xs)) (keep p (take (suc i) xs))) ≡ length (cond b (x ∷ keep p (take i xs)) (keep p (take i xs))) + cond (p (get_or xs i d)) 1 0
-      go true e = omega (arith, e)
-      go false e = e
-
-  pub passing_more : (rows : List A) (i : ℕ) → i < length rows → passing rows (i + 1) ≡ passing rows i + cond (p (get_or rows i d)) 1 0
-  passing_more rows i h = rw (add-one i) (further rows i h)
+use Rattle.sweeps.specs.Marks.{HeldMarks, StayMarks}
 
 -- a row that goes, as the sweep of the table has it
 abbrev pub goes_in : Table → Row → Bool
 goes_in t r = committed r && not (stays t r)
 
-module _ (t : Table) (marks : List Bool) (m : StayMarks t marks) (i : ℕ) (h : i < 32) where
-  -- the mark says of a slot what the sweep does
-  pub goes_of_mark : goes (row_at t i) (get_or marks i false) ≡ goes_in t (row_at t i)
-  goes_of_mark = go (committed (row_at t i)) (m.each i h)
-    where
-      go : (a : Bool) → (a ≡ true → get_or marks i false ≡ stays t (row_at t i)) → a && not (get_or marks i false) ≡ a && not (stays t (row_at t i))
-      go true e = ap not (e refl)
-      go false e = refl
+-- the rows after i of them were looked at, and how many of those went
+abbrev pub swept_front : Table → ℕ → List Row
+swept_front t i = map (swept_row t) (take i t.rows) ++ drop i t.rows
 
-  module _ (l : length t.rows ≡ 32) where
-    pub replaced_by_mark : (u : Table) (r : Row) → u ≡ with_rows t (replaced (swept_row t) past_end t.rows i)
-        → r ≡ cond (goes (row_at t i) (get_or marks i false)) free_row (row_at t i)
-        → with_rows u (set u.rows i r) ≡ with_rows t (replaced (swept_row t) past_end t.rows (i + 1))
-    unfolding swept_row
-    replaced_by_mark u r e f = rw (e, f, goes_of_mark) (ap {B = Table} (with_rows t) (replaced_more (swept_row t) past_end t.rows i (omega arith)))
+abbrev pub gone_front : Table → ℕ → ℕ
+gone_front t i = length (keep (goes_in t) (take i t.rows))
 
-    pub counted_by_mark : (n k : ℕ) → n ≡ passing (goes_in t) past_end t.rows i → k ≡ cond (goes (row_at t i) (get_or marks i false)) 1 0
-        → n + k ≡ passing (goes_in t) past_end t.rows (i + 1)
-    counted_by_mark n k e f = rw (e, f, goes_of_mark) (sym (passing_more (goes_in t) past_end t.rows i (omega arith)))
+-- the row at i is still as it was
+row_in_front : (f : Row → Row) (rows : List Row) (i : ℕ) (d : Row) → get_or (map f (take i rows) ++ drop i rows) i d ≡ get_or rows i d
+row_in_front f [] zero d = refl
+row_in_front f [] (suc i) d = refl
+row_in_front f (r ∷ rows) zero d = refl
+row_in_front f (r ∷ rows) (suc i) d = row_in_front f rows i d
 
-pub one_le : (b : Bool) → cond b 1 0 ≤ 1
-one_le true = omega arith
-one_le false = omega arith
+module _ (t : Table) (i : ℕ) where
+  pub row_now : (d : Row) → get_or (swept_front t i) i d ≡ get_or t.rows i d
+  row_now d = row_in_front (swept_row t) t.rows i d
 
--- all rows replaced are the table after the sweep, and those counted are those that went
-pub swept_all : (t u : Table) (n i : ℕ) → length t.rows ≡ 32 → 32 ≤ i → u ≡ with_rows t (replaced (swept_row t) past_end t.rows i)
-    → n ≡ passing (goes_in t) past_end t.rows i → answered u (Ok (Answer.Swept n)) ≡ effect t sweep
+  module _ (l : length t.rows ≡ 32) (h : i < 32) where
+    front_more : set (swept_front t i) i (swept_row t (row_at t i)) ≡ swept_front t (i + 1)
+    front_more =
+        let u : i < length t.rows = omega arith in
+        map_over_more (swept_row t) t.rows (swept_front t i) i (row_at t i) u refl (get_or_default t.rows i past_end (row_at t i) u ∙ sym (row_now (row_at t i)))
+
+    pub gone_few : gone_front t i ≤ i
+    gone_few = omega (arith, length_keep_le (goes_in t) (take i t.rows), length-take-le i t.rows (omega arith))
+
+    count_more : gone_front t (i + 1) ≡ gone_front t i + cond (goes_in t (row_at t i)) 1 0
+    count_more = length-filter_more (goes_in t) t.rows i past_end (omega arith)
+
+    -- one row more, by its mark: it goes and is counted, or stays
+    module _ (marks : List Bool) (m : StayMarks t marks) where
+      goes_of_mark : committed (row_at t i) && not (get_or marks i false) ≡ goes_in t (row_at t i)
+      goes_of_mark = go (committed (row_at t i)) (m.each i h)
+        where
+          go : (a : Bool) → (a ≡ true → get_or marks i false ≡ stays t (row_at t i)) → a && not (get_or marks i false) ≡ a && not (stays t (row_at t i))
+          go true e = ap not (e refl)
+          go false e = refl
+
+      pub row_goes : committed (row_at t i) && not (get_or marks i false) ≡ true
+          → (set (swept_front t i) i free_row ≡ swept_front t (i + 1)) × (gone_front t i + 1 ≡ gone_front t (i + 1))
+      unfolding swept_row
+      row_goes e = let g = sym goes_of_mark ∙ e in (rw g at front_more, sym (rw g at count_more))
+
+      pub row_stays : committed (row_at t i) && not (get_or marks i false) ≡ false
+          → (set (swept_front t i) i (get_or (swept_front t i) i past_end) ≡ swept_front t (i + 1)) × (gone_front t i ≡ gone_front t (i + 1))
+      unfolding swept_row
+      row_stays e = let g = sym goes_of_mark ∙ e in (ap (set (swept_front t i) i) (row_now past_end) ∙ rw g at front_more, omega (arith, rw g at count_more))
+
+-- all of them
+pub swept_all : (t u : Table) (n i : ℕ) → length t.rows ≡ 32 → 32 ≤ i → u ≡ with_rows t (swept_front t i) → n ≡ gone_front t i → answered u (Ok (Answer.Swept n)) ≡ effect t sweep
 unfolding effect swept_count kept
 swept_all t u n i l h e f =
     let a : take i t.rows ≡ t.rows = take_all i t.rows (omega arith) in
@@ -132,28 +110,25 @@ module _ (t : Table) where
   sweep_open z = (passed_step t sweep (tt {0}) {v = tt {0}} (rw (ne_eqb t.sites 0 z))).0
 
   -- the graph's answer marks the kept rows that stay
-  module _ (l : length t.rows ≡ 32) (flat : List ℕ) (al : Aligned t 32 flat) (marks : List Bool) (hm : HeldMarks t marks) where
-    kept_in : (i : ℕ) → i < 32 → takes_part t 32 i ≡ true → committed (row_at t i) ≡ true
-    kept_in i h p = elim (either_of_or (eqb i 32) (committed (row_at t i)) p) [ inl e ↦ absurd (omega (arith, eqb-true i 32 e)) | inr e ↦ e ]
-
-    marked : MarkedAs (HeldBack t) (In t 32) marks
+  module _ (l : length t.rows ≡ 32) (slots : List Tickets) (al : Aligned t None slots) (marks : List Bool) (hm : HeldMarks t marks) where
+    marked : MarkedAs (HeldBack t) (In t None) marks
     marked = record { row = row; slot = slot }
       where
-        row : (i : ℕ) (a : Row) → In t 32 i a → Marked marks i ↔ HeldBack t a
+        row : (i : ℕ) (a : Row) → In t None i a → Marked marks i ↔ HeldBack t a
         row i a (h, e, p) = (
           λ m. (held_back_iff t a).0 (rw e at (both_of_and (committed (row_at t i)) _ (sym (hm.each i h) ∙ m)).1),
-          λ b. hm.each i h ∙ and_of_both (kept_in i h p) (rw e ((held_back_iff t a).1 b)),
+          λ b. hm.each i h ∙ and_of_both p (rw e ((held_back_iff t a).1 b)),
         )
 
-        slot : (i : ℕ) → i < 32 → Marked marks i → (a : Row) × In t 32 i a
-        slot i h m = (row_at t i, (h, refl, or_of_right (eqb i 32) (both_of_and (committed (row_at t i)) (held_back t (row_at t i)) (sym (hm.each i h) ∙ m)).0))
+        slot : (i : ℕ) → i < 32 → Marked marks i → (a : Row) × In t None i a
+        slot i h m = (row_at t i, (h, refl, (both_of_and (committed (row_at t i)) (held_back t (row_at t i)) (sym (hm.each i h) ∙ m)).0))
 
-    pub stay_marks : (found : List Bool) → TellsReached flat marks found → StayMarks t found
+    pub stay_marks : (found : List Bool) → TellsReached slots marks found → StayMarks t found
     stay_marks found tells = record { size = tells.size; each = each }
       where
         each : (i : ℕ) → i < 32 → committed (row_at t i) ≡ true → get_or found i false ≡ stays t (row_at t i)
         each i h e =
-            let w : In t 32 i (row_at t i) = (h, refl, or_of_right (eqb i 32) e) in
-            let r = reached_of_answer tickets_of (kept t) (In t 32) flat (slotted_kept t l flat al) (HeldBack t) marks marked found tells i (row_at t i) h w in
-            let q = stays_iff t (row_at t i) ((slotted_kept t l flat al).row i (row_at t i) w).0 in
+            let w : In t None i (row_at t i) = (h, refl, e) in
+            let r = reached_of_answer tickets_of (kept t) (In t None) slots (slotted_kept t l slots al) (HeldBack t) marks marked found tells i (row_at t i) h w in
+            let q = stays_iff t (row_at t i) ((slotted_kept t l slots al).row i (row_at t i) w).0 in
             same_of_iff (get_or found i false) (stays t (row_at t i)) (λ m. q.1 (r.0 m)) (λ m. r.1 (q.0 m))

@@ -1,6 +1,5 @@
 -- A mark for each slot: the kept rows that are held back, and the kept rows that stay.
-use Rattle.std.specs.Prelude.{◌≡◌, Bool, true, false, not, ◌&&◌, List, ℕ, ◌<◌, length, get_or}
-use Rattle.method.specs.declared.Row.{Row}
+use Rattle.std.specs.Prelude.{◌≡◌, Bool, true, false, ◌&&◌, List, ℕ, ◌<◌, length, get_or}
 use Rattle.method.specs.declared.Table.{Table}
 use Rattle.method.specs.Records.{committed, row_at}
 use Rattle.method.specs.Conditions.{held_back}
@@ -14,6 +13,3 @@ pub record HeldMarks (t : Table) (marks : List Bool) : Type 0 where
 pub record StayMarks (t : Table) (marks : List Bool) : Type 0 where
   pub size : length marks ≡ 32
   pub each : (i : ℕ) → i < 32 → committed (row_at t i) ≡ true → get_or marks i false ≡ stays t (row_at t i)
-
-abbrev pub goes : Row → Bool → Bool
-goes r b = committed r && not b

@@ -1,58 +1,34 @@
 // Sweep: every kept row goes that no path of arrows reaches from a row that is held back. RULES, Forgetting.
 #![tactic(auto)]
 
-ghost use Rattle.std.specs.Prelude.{◌≡◌, cond, length};
-ghost use Rattle.method.specs.Records.{free_row};
+ghost use Rattle.std.specs.Prelude.{◌≡◌, ◌&&◌, not};
+ghost use Rattle.method.specs.Records.{committed};
 ghost use Rattle.method.specs.Calls.Call.{sweep as sweepCall};
+ghost use Rattle.method.specs.Conditions.{held_back};
 ghost use Rattle.method.specs.Effects.{effect, step};
-ghost use Rattle.sweeps.specs.Marks.{HeldMarks, StayMarks, goes as goesAway};
+ghost use Rattle.sweeps.specs.Marks.{HeldMarks, StayMarks};
 
-use method::{Answer, Answered, Row, Table};
+use method::{Answer, Answered, Row, Table, State};
 use refusals::Refusal;
+use std::array;
 
-// The kept rows that an active transaction holds back. Slots without one are passed by.
-fn held(t: Table) -> [bool; 32]
-    ensures answer { HeldMarks t result }
+// Is the row kept, and held back by an active transaction?
+fn is_held(t: &Table, row: &Row) -> bool
+    ensures answer { result ≡ committed row.now && held_back t.now row.now }
 {
-    let mut marks = [false; 32];
-    let mut i: usize = 0;
-    while i < 32 {
-        let row = t.rows[i];
-        let state = row.state;
-        if records::is_committed(state) {
-            let b = blockers::is_held_back(&t, &row);
-            marks[i] = b;
-        }
-        i += 1;
-    }
-    marks
+    row.state == State::Committed && blockers::is_held_back(t, row)
 }
 
-fn goes(row: Row, stays: bool) -> bool
-    ensures answer { result ≡ goesAway row stays }
+fn held(t: &Table) -> [bool; 32]
+    ensures answer { HeldMarks t.now result }
 {
-    let state = row.state;
-    if stays {
-        false
-    } else {
-        records::is_committed(state)
-    }
+    array::from_fn(|i| is_held(t, &t.rows[i]))
 }
 
-fn left_of(row: Row, stays: bool) -> Row
-    ensures answer { result ≡ cond (goesAway row stays) free_row row }
+fn goes(row: &Row, stays: bool) -> bool
+    ensures answer { result ≡ committed row.now && not stays }
 {
-    if goes(row, stays) {
-        records::free_row()
-    } else {
-        row
-    }
-}
-
-fn counts(row: Row, stays: bool) -> u32
-    ensures answer { result ≡ cond (goesAway row stays) 1 0 }
-{
-    if goes(row, stays) { 1 } else { 0 }
+    row.state == State::Committed && !stays
 }
 
 // The rows that do not stay go, and are counted.
@@ -60,19 +36,16 @@ fn cleared(t: Table, stay: [bool; 32]) -> Answered<Table>
     requires { StayMarks t stay }
     ensures answer { result ≡ effect t sweepCall }
 {
-    let mut u = t;
-    let mut n: u32 = 0;
-    let mut i: usize = 0;
-    while i < 32 {
-        let row = t.rows[i];
-        let stays = stay[i];
-        let rest = left_of(row, stays);
-        u.rows[i] = rest;
-        n += counts(row, stays);
-        i += 1;
+    let mut table = t;
+    let mut n = 0;
+    for (i, row) in table.rows.iter_mut().enumerate() {
+        if goes(row, stay[i]) {
+            *row = records::free_row();
+            n += 1;
+        }
     }
     Answered {
-        table: u,
+        table,
         answer: Ok(Answer::Swept(n)),
     }
 }
@@ -83,8 +56,8 @@ pub fn sweep(t: Table) -> Answered<Table>
     if t.sites == 0 {
         return records::refuse(t, Refusal::NotOpen);
     }
-    let flat = kept::aligned::tickets(t, 32);
-    let marks = held(t);
-    let stay = paths::reached(flat, marks);
+    let tickets = kept::aligned::tickets(&t, None);
+    let marks = held(&t);
+    let stay = paths::reached(&tickets, marks);
     cleared(t, stay)
 }

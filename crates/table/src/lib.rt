@@ -4,14 +4,15 @@
 
 ghost use Rattle.std.specs.Prelude.{◌≡◌, ◌*◌, length};
 ghost use Rattle.method.specs.Records.{closed as closedTable};
-ghost use Rattle.method.specs.Slots.{kept_flat};
+ghost use Rattle.method.specs.Slots.{kept, kept_flat};
 ghost use Rattle.method.specs.Conditions.{is_closed};
 ghost use Rattle.method.specs.Calls.Call.{open_with, begin as beginCall, report_ticket, report_prepared, abort as abortCall, decide as decideCall, forget as forgetCall, sweep as sweepCall};
-ghost use Rattle.kept.specs.Packed.{packed_of};
 ghost use Rattle.table.specs.Shut.{shut_table, answer_to, table_after, used_by};
 
 use kept::packed::Kept;
-use method::{Answered, Number, Ticket};
+use method::{Answered, Number, Ticket, Answer};
+use arrayvec::ArrayVec;
+use slots::Gate;
 
 #[derive(Clone, Copy)]
 pub struct Table {
@@ -102,11 +103,11 @@ pub fn is_closed(t: &Table) -> bool
 }
 
 // The kept rows as a ticket table, by slot.
-pub fn kept_rows(t: &Table) -> Kept
-    ensures answer { result ≡ packed_of t.now.held }
-    ensures whole { length (kept_flat t.now.held) ≡ 9 * result.count }
+pub fn kept_rows(t: &Table) -> ArrayVec<u32, 288>
+    ensures items { result.items ≡ kept_flat t.now.held }
+    ensures whole { length (kept_flat t.now.held) ≡ 9 * length (kept t.now.held) }
 {
-    kept::packed::rows(t.held)
+    kept::packed::rows(&t.held)
 }
 
 // How many sites a transaction uses: 0 for a number that the table does not know.

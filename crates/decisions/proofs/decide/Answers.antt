@@ -29,7 +29,7 @@ returns-then-has_cycle c =
     let t = c.args.t in
     record {
       answer = c.without.ensures.answer
-          ∙ sym ((went f).0 ∙ cycle_effect t (rows f) c.args.n.0 c.in-Ok.slot (went f).1 (inside f) c.tickets-flat.result c.tickets-flat.ensures.answer c.has_cycle.result c.has_cycle.ensures.answer c.if-has_cycle.true);
+          ∙ sym ((went f).0 ∙ cycle_effect t (rows f) c.args.n.0 c.in-Ok.slot (went f).1 (inside f) c.tickets-tickets.result c.tickets-tickets.ensures.answer c.has_cycle.result c.has_cycle.ensures.answer c.if-has_cycle.true);
     }
 
 pub returns-else-has_cycle : goal.returns-else-has_cycle
@@ -38,7 +38,7 @@ returns-else-has_cycle c =
     let t = c.args.t in
     record {
       answer = c.commit.ensures.answer
-          ∙ sym ((went f).0 ∙ commit_effect t (rows f) c.args.n.0 c.in-Ok.slot (went f).1 (inside f) c.tickets-flat.result c.tickets-flat.ensures.answer c.has_cycle.result c.has_cycle.ensures.answer c.if-has_cycle.false);
+          ∙ sym ((went f).0 ∙ commit_effect t (rows f) c.args.n.0 c.in-Ok.slot (went f).1 (inside f) c.tickets-tickets.result c.tickets-tickets.ensures.answer c.has_cycle.result c.has_cycle.ensures.answer c.if-has_cycle.false);
     }
 
 pub returns-in-Err : goal.returns-in-Err

@@ -1,7 +1,6 @@
--- `paths::has_cycle` meets its contract: the diagonal has a yes, or was passed without one. Assumes nothing.
-use native.Mathlib.Omega.{arith}
-use Rattle.paths.proofs.CycleLaws.{no_cycle_of_no}
+-- `paths::has_cycle` meets its contract. Assumes nothing.
+use Rattle.paths.proofs.CycleLaws.{cycle_of_loop}
 use Rattle.paths.proofs.has_cycle.Goals as goal
 
 pub returns : goal.returns
-returns c = record { answer = no_cycle_of_no c.args.tickets c.paths-square.result c.paths-square.ensures.answer (λ m h. c.loop-i.invariant.1 m (omega (arith, c.loop-i-test.false))) }
+returns c = record { answer = cycle_of_loop c.args.tickets.now c.paths.result c.told-tickets c.paths.ensures.answer _ c.has_loop.ensures.answer }

@@ -1,9 +1,17 @@
--- `sweeps::held` meets its contract: a slot that is passed by has no mark, and no kept row. Assumes nothing.
-use mathlib.Core.Path.{refl}
-use mathlib.Core.Bool.{false}
-use lib.ListN.{get_or-replicate}
-use Rattle.paths.proofs.PassedLaws.{passed_none}
+-- `sweeps::held` meets its contract. Assumes nothing.
+use mathlib.Core.Path.{◌≡◌}
+use mathlib.Core.Bool.{false, ◌&&◌}
+use borrow.Author.Rules.{rules}
+use Rattle.graph.proofs.ArrayLaws.{from_fn_each}
+use Rattle.method.specs.Records.{committed, row_at}
+use Rattle.method.specs.Conditions.{held_back}
 use Rattle.sweeps.proofs.held.Goals as goal
 
-pub loop-i-init : goal.loop-i-init
-loop-i-init c = passed_none refl (λ j h. get_or-replicate 32 j false false h)
+pub returns : goal.returns
+returns c = let t = c.args.t.now in
+    record {
+      answer = record {
+        size = c.from_fn.ensures.items.long;
+        each = λ i h. from_fn_each _ (λ j b. b ≡ committed (row_at t j) && held_back t (row_at t j)) _ (λ j b q k. search rules) _ 32 c.from_fn.ensures.items i h false;
+      };
+    }

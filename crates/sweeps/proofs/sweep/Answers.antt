@@ -12,7 +12,7 @@ returns-then-t-eq0 c = record { answer = c.refuse.ensures.answer ∙ sym (sweep_
 pub cleared-requires : goal.cleared-requires
 cleared-requires c = let t = c.args.t in
     let l : length t.rows ≡ 32 = search (rules, unmapped) in
-    stay_marks t l c.tickets-flat.result c.tickets-flat.ensures.answer c.held-marks.result c.held-marks.ensures.answer c.reached-stay.result c.reached-stay.ensures.answer
+    stay_marks t l c.tickets-tickets.result c.tickets-tickets.ensures.answer c.held-marks.result c.held-marks.ensures.answer c.reached-stay.result c.reached-stay.ensures.answer
 
 pub returns : goal.returns
 returns c = record { answer = c.cleared.ensures.answer ∙ sym (sweep_open c.args.t c.if-t-eq0.false) }

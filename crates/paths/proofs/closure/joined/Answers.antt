@@ -1,9 +1,10 @@
 -- `paths::closure::joined` meets its contract. Assumes nothing.
-use mathlib.Core.Path.{refl}
-use mathlib.Core.Bool.{false}
-use lib.ListN.{get_or-replicate}
-use Rattle.paths.proofs.PassedLaws.{passed_none}
+use mathlib.Core.Path.{◌≡◌}
+use mathlib.Core.Bool.{false, ◌||◌}
+use lib.ListN.{get_or}
+use borrow.Author.Rules.{rules}
+use Rattle.graph.proofs.ArrayLaws.{from_fn_each}
 use Rattle.paths.proofs.closure.joined.Goals as goal
 
-pub loop-j-init : goal.loop-j-init
-loop-j-init c = passed_none refl (λ j h. get_or-replicate 32 j false false h)
+pub returns-clause-each : goal.returns-clause-each
+returns-clause-each c = λ j h. from_fn_each _ (λ i y. y ≡ get_or c.args.a.now i false || get_or c.args.b.now i false) _ (λ i y q k. search rules) _ 32 c.from_fn.ensures.items j h false
