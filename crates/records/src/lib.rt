@@ -1,25 +1,13 @@
-// The records of a table: a slot's state, a free row, a call refused, a slot filled or freed. RULES, The table.
+// The records of a table: a free row, a call refused, a slot filled or freed. RULES, The table.
 #![tactic(auto)]
 
 ghost use Rattle.std.specs.Prelude.{◌≡◌, map, Ok, Err};
 ghost use Rattle.method.specs.declared.Part.{Part as Parts};
-ghost use Rattle.method.specs.Records.{is_free, is_active, is_committed, free_row, with_row, tickets_of};
+ghost use Rattle.method.specs.Records.{free_row, with_row, tickets_of};
 ghost use Rattle.method.specs.Effects.{answered};
 
 use method::{Answer, Answered, Number, Part, Row, SITES, SLOTS, Stage, State, Table, Ticket};
 use refusals::Refusal;
-
-pub fn is_active(s: State) -> bool
-    ensures answer { result ≡ is_active s }
-{
-    s == State::Active
-}
-
-pub fn is_committed(s: State) -> bool
-    ensures answer { result ≡ is_committed s }
-{
-    s == State::Committed
-}
 
 // The tickets of parts that stand alone: behind a reference to a row a proof does not see how many there are.
 fn tickets_in(parts: &[Part; SITES]) -> [u32; SITES]
