@@ -2,6 +2,8 @@
 use Rattle.std.specs.Prelude.{List, [], ◌∷◌, ℕ, ◌≤◌, ◌^◌, length}
 use Rattle.endian.specs.Places.{Below}
 use Rattle.text.specs.Text.{text_of}
+use Rattle.refusals.specs.declared.Refusal.{Refusal}
+use Rattle.refusals.specs.Numbers.{number_of}
 use Rattle.lines.specs.declared.Words.{Words}
 
 pub data Line : Type 0 where
@@ -10,7 +12,7 @@ pub data Line : Type 0 where
   -- the numbers of the kept rows in their order
   order : List ℕ → Line
 
--- those that statements name; r is a refusal number
+-- those that statements name
 abbrev pub ok_line : Line
 ok_line = say Words.Ok
 
@@ -20,7 +22,7 @@ good_line = say Words.Good
 abbrev pub bad_line : Line
 bad_line = say Words.Bad
 
-abbrev pub refused_line : ℕ → Line
+abbrev pub refused_line : Refusal → Line
 refused_line r = say (Words.Refused r)
 
 -- the word that an answer begins with, and the number behind it
@@ -42,7 +44,7 @@ number_for (Words.Cycle n) = n ∷ []
 number_for (Words.Swept c) = c ∷ []
 number_for Words.Good = []
 number_for Words.Bad = []
-number_for (Words.Refused r) = r ∷ []
+number_for (Words.Refused r) = number_of r ∷ []
 
 -- the same of a line
 abbrev pub word_of : Line → List ℕ

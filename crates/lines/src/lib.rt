@@ -6,6 +6,7 @@ ghost use Rattle.endian.specs.Laid.{stored};
 ghost use Rattle.decimal.specs.Written.{written_count};
 ghost use Rattle.lines.specs.Line.{line_bytes, ok_line, Line.say, Line.order};
 
+use refusals::Refusal;
 use text::put_text;
 
 // Every answer but the order.
@@ -20,8 +21,8 @@ pub enum Words {
     Swept(u32),
     Good,
     Bad,
-    // the refusal's number
-    Refused(u32),
+    // told by its number
+    Refused(Refusal),
 }
 
 // Most answers are this one, so its three bytes are stored at once.
@@ -52,7 +53,7 @@ pub fn write_line(words: Words, out: &mut [u8], place: usize) -> Option<usize>
         Words::Swept(c) => put_text(b"swept", &[c], out, place),
         Words::Good => put_text(b"good", &[], out, place),
         Words::Bad => put_text(b"bad", &[], out, place),
-        Words::Refused(r) => put_text(b"refused", &[r], out, place),
+        Words::Refused(r) => put_text(b"refused", &[u32::from(r)], out, place),
     }
 }
 

@@ -65,14 +65,14 @@ none_holds (r ∷ rs) (c ∷ cs) (p, h, j) e = go c.1 c.0 h (none_holds rs cs j)
     go false i h rest e = (λ x. false≢true (h.1 x), rest e)
 
 -- of two that hold first, both are the same; where none holds, none holds first
-pub first_unique : (rs : List (Refusal × Type 0)) (j k : Refusal) → FirstHolds rs j → FirstHolds rs k → j ≡ k
+pub first_unique : {K : Type 0} (rs : List (K × Type 0)) (j k : K) → FirstHolds rs j → FirstHolds rs k → j ≡ k
 first_unique [] j k p q = absurd p
 first_unique (r ∷ rs) j k (inl p) (inl q) = sym p.1 ∙ q.1
 first_unique (r ∷ rs) j k (inl p) (inr q) = absurd (q.0 p.0)
 first_unique (r ∷ rs) j k (inr p) (inl q) = absurd (p.0 q.0)
 first_unique (r ∷ rs) j k (inr p) (inr q) = first_unique rs j k p.1 q.1
 
-pub none_or_first : (rs : List (Refusal × Type 0)) (k : Refusal) → NoneHolds rs → ¬ FirstHolds rs k
+pub none_or_first : {K : Type 0} (rs : List (K × Type 0)) (k : K) → NoneHolds rs → ¬ FirstHolds rs k
 none_or_first [] k n f = f
 none_or_first (r ∷ rs) k (n, m) (inl p) = n p.0
 none_or_first (r ∷ rs) k (n, m) (inr p) = none_or_first rs k m p.1

@@ -60,12 +60,12 @@ abbrev pub call_refusals : List Refusal
 call_refusals =
     Refusal.NotOpen ∷ Refusal.Unknown ∷ Refusal.BadSite ∷ Refusal.OutOfTurn ∷ Refusal.NotAbove ∷ Refusal.Taken ∷ Refusal.Full ∷ Refusal.UsedUp ∷ Refusal.TooEarly ∷ []
 
--- refusal k is the first whose condition holds; no condition holds
-abbrev pub FirstHolds : List (Refusal × Type 0) → Refusal → Type 0
+-- refusal k is the first whose condition holds, whatever refusals are told by; no condition holds
+abbrev pub FirstHolds : {K : Type 0} → List (K × Type 0) → K → Type 0
 FirstHolds [] k = ⊥
 FirstHolds (c ∷ cs) k = (c.1 × (c.0 ≡ k)) ⊎ ((¬ c.1) × FirstHolds cs k)
 
-abbrev pub NoneHolds : List (Refusal × Type 0) → Type 0
+abbrev pub NoneHolds : {K : Type 0} → List (K × Type 0) → Type 0
 NoneHolds [] = Unit {0}
 NoneHolds (c ∷ cs) = (¬ c.1) × NoneHolds cs
 

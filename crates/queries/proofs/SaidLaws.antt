@@ -3,14 +3,9 @@ use mathlib.Core.Path.{◌≡◌, refl, ap, ◌∙◌}
 use Prim.Native.Nat.{◌+◌}
 use lib.ListN.{length, drop}
 use lib.Seq.{take_at}
-use Rattle.lines.specs.declared.Words.{Words}
 use Rattle.lines.specs.Line.{Line, Line.say, Line.order}
-use Rattle.queries.specs.declared.Said.{Said}
 use Rattle.queries.specs.Said.{said_line, said_of, no_numbers, numbers_for}
 
 pub line_of_said : (x : Line) → said_line (said_of x) (numbers_for x) ≡ x
 line_of_said (say w) = refl
 line_of_said (order l) = ap order (take_at l (drop (0 + length l) no_numbers) (length l) refl)
-
-pub line_of_words : (x : Line) (w : Words) → Said.Words w ≡ said_of x → say w ≡ x
-line_of_words x w e = ap (λ s. said_line s (numbers_for x)) e ∙ line_of_said x

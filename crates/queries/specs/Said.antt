@@ -1,9 +1,9 @@
 -- A line as the code hands it on: words, or how many numbers of the array beside it are the order.
-use Rattle.std.specs.Prelude.{List, ℕ, length, replicate, take}
+use Rattle.std.specs.Prelude.{Bool, true, false, Result, Ok, Err, List, ℕ, length, replicate, take}
 use Rattle.endian.specs.Laid.{laid}
+use Rattle.refusals.specs.declared.Refusal.{Refusal}
 use Rattle.lines.specs.declared.Words.{Words}
 use Rattle.lines.specs.Line.{Line, Line.say, Line.order}
-use Rattle.orders.specs.Reply.{Reply}
 use Rattle.queries.specs.declared.Said.{Said}
 use Rattle.queries.specs.declared.Spoken.{Spoken}
 
@@ -31,8 +31,11 @@ abbrev pub spoken_of : Line → Spoken
 spoken_of x = spoken (said_of x) (numbers_for x)
 
 -- what the check or the writer answered
-abbrev pub reply_said : Reply → Said
-reply_said (Reply.refused k) = Said.Words (Words.Refused k)
-reply_said Reply.yes = Said.Words Words.Good
-reply_said Reply.no = Said.Words Words.Bad
-reply_said (Reply.wrote n) = Said.Order n
+abbrev pub check_words : Result Bool Refusal → Words
+check_words (Ok true) = Words.Good
+check_words (Ok false) = Words.Bad
+check_words (Err r) = Words.Refused r
+
+abbrev pub write_said : Result ℕ Refusal → Said
+write_said (Ok n) = Said.Order n
+write_said (Err r) = Said.Words (Words.Refused r)
