@@ -5,6 +5,7 @@ use mathlib.Core.List.Memᴰ.{head as here}
 use mathlib.Core.List.Memᴰ.{tail as there}
 use mathlib.Core.List.{List, ◌∷◌}
 use Prim.Native.Nat.{ℕ}
+use Rattle.refusals.specs.declared.Refusal.{Refusal}
 use Rattle.graph.specs.Lists.{◌∈◌}
 use Rattle.orders.specs.Entries.{entries_in}
 use Rattle.orders.specs.Good.{GoodRows}
@@ -51,12 +52,12 @@ module _ (r : Run) where
   pub flat_ordered : (o : List ℕ) × InOrder (entries_in (kept_flat (after r))) o
   flat_ordered = rw run_rows run_ordered
 
-pub never_in_lines : (s : Stream) (r : Run) (k : ℕ) → refused_line k ∈ lines_of (after r) s → k ∈ 11 ∷ 10 ∷ call_refusals
+pub never_in_lines : (s : Stream) (r : Run) (k : Refusal) → refused_line k ∈ lines_of (after r) s → k ∈ Refusal.BadFrame ∷ Refusal.BadBody ∷ call_refusals
 unfolding lines_of
 never_in_lines ended r k i = absurd (Memᴰ.not-nil i)
-never_in_lines (cut_off l) r k (here e) = here (let f : k ≡ 11 = cc in f)
+never_in_lines (cut_off l) r k (here e) = here (let f : k ≡ Refusal.BadFrame = cc in f)
 never_in_lines (cut_off l) r k (there i) = absurd (Memᴰ.not-nil i)
-never_in_lines (Stream.refused l) r k (here e) = here (let f : k ≡ 11 = cc in f)
+never_in_lines (Stream.refused l) r k (here e) = here (let f : k ≡ Refusal.BadFrame = cc in f)
 never_in_lines (Stream.refused l) r k (there i) = absurd (Memᴰ.not-nil i)
 never_in_lines (framed b s) r k (here e) = there (body_listed (after r) (run_good r) (flat_ordered r) k b (sym e))
 never_in_lines (framed b s) r k (there i) = let (q, e) = desk_run r b in never_in_lines s q k (rw e at i)

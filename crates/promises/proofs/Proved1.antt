@@ -110,7 +110,7 @@ lines_of_whole : (t : method.Table) (b r : List ℕ) → length b ≤ 160 → li
 unfolding lines_of
 lines_of_whole t b r h = rw (stream_of_whole (frame_of b ++ r) b r (next_of_means (frame_of b ++ r) (whole b r) (record { bytes = refl; short = h })))
 
-lines_of_eleven : (t : method.Table) (l : List ℕ) → Bad l ⊎ Cut l → lines_for t l ≡ refused_line 11 ∷ []
+lines_of_eleven : (t : method.Table) (l : List ℕ) → Bad l ⊎ Cut l → lines_for t l ≡ refused_line Refusal.BadFrame ∷ []
 unfolding lines_of
 lines_of_eleven t l (inl h) = rw (stream_of_bad l (next_of_means l bad h))
 lines_of_eleven t l (inr h) = rw (stream_of_cut l (next_of_means l cut h))

@@ -100,7 +100,7 @@ commits_exactly t n a u (p, q) e nc nu nr = rw (p, q) (decision t.held n e nc nu
 pub slot_found : SlotFound
 slot_found t n nu = let f = found t n nu in (f.used, f.named)
 
-forget_frees : (t : Table) (n : ℕ) → (step t (forget n)).answer ≡ Answer.Done → Frees t (step t (forget n)).table (slot_of t n)
+forget_frees : (t : Table) (n : ℕ) → (step t (forget n)).answer ≡ Ok Answer.Done → Frees t (step t (forget n)).table (slot_of t n)
 unfolding rules effect
 forget_frees t n e = go (step_goes t (forget n))
   where

@@ -9,9 +9,9 @@ use Prim.Native.Nat.{ℕ, ◌+◌, ◌<◌}
 use native.Mathlib.Omega.{arith}
 use lib.ListN.{length}
 use Rattle.frames.specs.Frame.{Bad, frame_of, EndsAt, body_to}
-use Rattle.frames.specs.Answer.{FrameMeans, frame_refusal}
-use Rattle.wire.specs.Meaning.{NoBody, BodyMeans, ReadMeans, body_refusal, read_refusal}
-use Rattle.sending.specs.Meaning.{WriteMeans, write_refusal}
+use Rattle.frames.specs.Answer.{FrameMeans}
+use Rattle.wire.specs.Meaning.{NoBody, BodyMeans, ReadMeans, read_refusal}
+use Rattle.sending.specs.Meaning.{WriteMeans}
 use Rattle.refusals.specs.declared.Refusal.{Refusal}
 use Rattle.refusals.specs.Numbers.{told_by}
 use Rattle.wire.specs.declared.reader.Request.{Request}

@@ -1,5 +1,8 @@
 -- Demand 1: every message and call, however malformed or out of turn, gets its one listed answer, and a refused call leaves the table and
 -- all lent memory as before. proofs/Proved1.antt has a proof of each.
+use Rattle.std.specs.Prelude.{Err}
+use Rattle.std.specs.Prelude.{Ok}
+use Rattle.method.specs.Calls.{CallAnswer}
 use Rattle.std.specs.Prelude.{◌≡◌, Bool, true, false, cond, List, [], ◌∷◌, ◌++◌, ◌↔◌, ◌≢◌, ◌⊎◌, ℕ, ◌+◌, ◌-◌, ◌<◌, ◌≤◌, length, take, drop, Result, Option, Some, None}
 use Rattle.std.proofs.Math.Option.{Option, none, some}
 use Rattle.endian.specs.Places.{Below}
@@ -35,45 +38,45 @@ use Rattle.turns.specs.Pieces.{joined, in_pieces}
 use Rattle.promises.specs.Stated.{CallGives, WriteGives, BodyGives, FrameGives, ReadGives, MessageGives, ServeGives, TurnGives}
 
 -- a call's row in RULES, Calls: the refusals that it can get, after 1 for a closed table, and what it is answered when it is done
-abbrev pub refusals : Call → List ℕ
-refusals (open_with first floors) = 4 ∷ 1 ∷ []
-refusals (begin sites) = 1 ∷ 3 ∷ 8 ∷ 7 ∷ []
-refusals (report_ticket n s k) = 1 ∷ 2 ∷ 3 ∷ 4 ∷ 5 ∷ 6 ∷ []
-refusals (report_prepared n s) = 1 ∷ 2 ∷ 3 ∷ 4 ∷ []
-refusals (abort n) = 1 ∷ 2 ∷ 4 ∷ []
-refusals (decide n) = 1 ∷ 2 ∷ 4 ∷ []
-refusals (forget n) = 1 ∷ 2 ∷ 4 ∷ 9 ∷ []
-refusals sweep = 1 ∷ []
+abbrev pub refusals : Call → List Refusal
+refusals (open_with first floors) = Refusal.OutOfTurn ∷ Refusal.NotOpen ∷ []
+refusals (begin sites) = Refusal.NotOpen ∷ Refusal.BadSite ∷ Refusal.UsedUp ∷ Refusal.Full ∷ []
+refusals (report_ticket n s k) = Refusal.NotOpen ∷ Refusal.Unknown ∷ Refusal.BadSite ∷ Refusal.OutOfTurn ∷ Refusal.NotAbove ∷ Refusal.Taken ∷ []
+refusals (report_prepared n s) = Refusal.NotOpen ∷ Refusal.Unknown ∷ Refusal.BadSite ∷ Refusal.OutOfTurn ∷ []
+refusals (abort n) = Refusal.NotOpen ∷ Refusal.Unknown ∷ Refusal.OutOfTurn ∷ []
+refusals (decide n) = Refusal.NotOpen ∷ Refusal.Unknown ∷ Refusal.OutOfTurn ∷ []
+refusals (forget n) = Refusal.NotOpen ∷ Refusal.Unknown ∷ Refusal.OutOfTurn ∷ Refusal.TooEarly ∷ []
+refusals sweep = Refusal.NotOpen ∷ []
 
-abbrev pub Done : method.Table → Call → Answer → Type 0
-Done t (open_with first floors) a = a ≡ Answer.Done
-Done t (begin sites) a = a ≡ Answer.Begun (number (t.last.0 + 1))
-Done t (report_ticket n s k) a = a ≡ Answer.Done
-Done t (report_prepared n s) a = a ≡ Answer.Done
-Done t (abort n) a = a ≡ Answer.Done
-Done t (decide n) a = (a ≡ Answer.Commit (number n)) ⊎ (a ≡ Answer.Cycle (number n))
-Done t (forget n) a = a ≡ Answer.Done
-Done t sweep a = (k : ℕ) × (a ≡ Answer.Swept k)
+abbrev pub Done : method.Table → Call → CallAnswer → Type 0
+Done t (open_with first floors) a = a ≡ Ok Answer.Done
+Done t (begin sites) a = a ≡ Ok (Answer.Begun (number (t.last.0 + 1)))
+Done t (report_ticket n s k) a = a ≡ Ok Answer.Done
+Done t (report_prepared n s) a = a ≡ Ok Answer.Done
+Done t (abort n) a = a ≡ Ok Answer.Done
+Done t (decide n) a = (a ≡ Ok (Answer.Commit (number n))) ⊎ (a ≡ Ok (Answer.Cycle (number n)))
+Done t (forget n) a = a ≡ Ok Answer.Done
+Done t sweep a = (k : ℕ) × (a ≡ Ok (Answer.Swept k))
 
 -- every call on every table is answered by its own row
 abbrev pub Answered : Type 0
-Answered = (t : Table) (c : Call) (a : Answer) (u : Table) → CallGives t c a u → Done t.held c a ⊎ ((k : ℕ) × (k ∈ refusals c) × (a ≡ Answer.Refused k))
+Answered = (t : Table) (c : Call) (a : CallAnswer) (u : Table) → CallGives t c a u → Done t.held c a ⊎ ((k : Refusal) × (k ∈ refusals c) × (a ≡ Err k))
 
 -- a refusal leaves everything as it was: the table of a call, the buffer of the order's writer and of the message's
 pub record RefusedKeeps : Type 0 where
-  pub calls : (t : Table) (c : Call) (a : Answer) (u : Table) → CallGives t c a u → (k : ℕ) → a ≡ Answer.Refused k → u ≡ t
+  pub calls : (t : Table) (c : Call) (a : CallAnswer) (u : Table) → CallGives t c a u → (k : Refusal) → a ≡ Err k → u ≡ t
   pub orders : (flat : List ℕ) (place : ℕ) (out : List ℕ) (r : Result ℕ Refusal) (after : List ℕ) → WriteGives flat place out r after → (k : ℕ) → write_reply r ≡ Reply.refused k → after ≡ out
   pub messages : (b out : List ℕ) (place : ℕ) (r : Result ℕ Refusal) (after : List ℕ) → MessageGives b out place r after → (k : ℕ) → told_by r ≡ Some k → after ≡ out
   -- where the longest line would not fit nothing is served
   pub roomless : (t : Table) (b out : List ℕ) (place : ℕ) (r : Served) (after : List ℕ) → ServeGives t b out place r after → length out < place + 358
       → (r.table ≡ t) × (r.count ≡ None) × (after ≡ out)
   -- and a message of the service that is answered with a refusal leaves its table
-  pub served : (t : method.Table) (b : List ℕ) (k : ℕ) → (desk_body t b).1 ≡ refused_line k → (desk_body t b).0 ≡ t
+  pub served : (t : method.Table) (b : List ℕ) (k : Refusal) → (desk_body t b).1 ≡ refused_line k → (desk_body t b).0 ≡ t
 
 -- each refusal is given exactly when it should be. Those of the orders (13, 14, 12) and of the C call are in Demand3.
 pub record RefusedExactly : Type 0 where
   -- a call is refused with k exactly if k's condition holds and no earlier one of its row does
-  pub calls : (t : Table) (c : Call) (a : Answer) (u : Table) → CallGives t c a u → (k : ℕ) → (a ≡ Answer.Refused k) ↔ FirstHolds (rules t.held c) k
+  pub calls : (t : Table) (c : Call) (a : CallAnswer) (u : Table) → CallGives t c a u → (k : Refusal) → (a ≡ Err k) ↔ FirstHolds (rules t.held c) k
   -- 2 and 8 read off the run: never begun or over by now; the last number was given
   pub unknown : (r : Run) (n : ℕ) → Unknown (after r) n ↔ ((¬ BegunIn r n) ⊎ Over r n)
   pub used_up : (r : Run) (first : ℕ) (floors : List ℕ) → Happened (Opens first floors) r → UsedUp (after r) ↔ (first - 1 + begins r ≡ 4294967295)
@@ -84,9 +87,9 @@ pub record RefusedExactly : Type 0 where
   pub writes : (b out : List ℕ) (place : ℕ) (r : Result ℕ Refusal) (after : List ℕ) → Below 256 b → MessageGives b out place r after
       → (x : Result ℕ Refusal) → (x ≡ r) ↔ WriteMeans b out place x
   -- a body at the service: 10 exactly if it is no message's, then 1 before a good opening, and 4 for an opening after one
-  pub ten : (t : method.Table) (b : List ℕ) → Below 256 b → ((desk_body t b).1 ≡ refused_line 10) ↔ NoBody b
-  pub one : (t : method.Table) (m : Message) → InRange m → ((n : ℕ) (fs : List ℕ) → m ≢ opening n fs) → Closed t → desk_body t (body_of m) ≡ (t, refused_line 1)
-  pub four : (t : method.Table) (n : ℕ) (fs : List ℕ) → InRange (opening n fs) → ¬ Closed t → desk_body t (body_of (opening n fs)) ≡ (t, refused_line 4)
+  pub ten : (t : method.Table) (b : List ℕ) → Below 256 b → ((desk_body t b).1 ≡ refused_line Refusal.BadBody) ↔ NoBody b
+  pub one : (t : method.Table) (m : Message) → InRange m → ((n : ℕ) (fs : List ℕ) → m ≢ opening n fs) → Closed t → desk_body t (body_of m) ≡ (t, refused_line Refusal.NotOpen)
+  pub four : (t : method.Table) (n : ℕ) (fs : List ℕ) → InRange (opening n fs) → ¬ Closed t → desk_body t (body_of (opening n fs)) ≡ (t, refused_line Refusal.OutOfTurn)
 
 -- each message is one call, but for the two on orders, of which Demand3 speaks
 abbrev pub call_of : Message → Option Call
@@ -115,8 +118,8 @@ pub record Lines : Type 0 where
   -- nothing left writes nothing; a message gets one line and reading goes on behind it, after 10 too; 11 is the last line
   pub nothing : (t : method.Table) → lines_for t [] ≡ []
   pub message : (t : method.Table) (b r : List ℕ) → length b ≤ 160 → lines_for t (frame_of b ++ r) ≡ (desk_body t b).1 ∷ lines_for (desk_body t b).0 r
-  pub ten : (t : method.Table) (b r : List ℕ) → length b ≤ 160 → Below 256 b → NoBody b → lines_for t (frame_of b ++ r) ≡ refused_line 10 ∷ lines_for t r
-  pub eleven : (t : method.Table) (l : List ℕ) → Bad l ⊎ Cut l → lines_for t l ≡ refused_line 11 ∷ []
+  pub ten : (t : method.Table) (b r : List ℕ) → length b ≤ 160 → Below 256 b → NoBody b → lines_for t (frame_of b ++ r) ≡ refused_line Refusal.BadBody ∷ lines_for t r
+  pub eleven : (t : method.Table) (l : List ℕ) → Bad l ⊎ Cut l → lines_for t l ≡ refused_line Refusal.BadFrame ∷ []
   -- each is one line of text, and the bytes of all of them determine them
   pub text : (x : Line) → OneLine (line_bytes x)
   pub lines : (xs ys : List Line) → output_bytes xs ≡ output_bytes ys → xs ≡ ys

@@ -1,4 +1,5 @@
 -- Demand 2: the table follows the published method step by step. proofs/Proved2.antt has a proof of each.
+use Rattle.method.specs.Calls.{CallAnswer}
 use Rattle.std.specs.Prelude.{◌≡◌, List, ◌∷◌, ◌++◌, ◌↔◌, ◌≢◌, ◌⊎◌, ℕ, ◌+◌, ◌≤◌, max, length, take, drop}
 use Rattle.std.specs.Prelude.{Option, Some, Result, Ok}
 use Rattle.graph.specs.Lists.{◌∈◌}
@@ -68,13 +69,13 @@ pub record CommitsRow (t u : Table) (i : ℕ) (q : Row) : Type 0 where
   pub last : u.last ≡ t.last
 
 -- the two ways of a decision on n that nothing refuses, over all kept committed ones and no active one
-pub data Decision (t : Table) (n : ℕ) (a : Answer) (u : Table) : Type 0 where
-  commits : ¬ Cycle Goes (row_of_number t n ∷ kept t) → a ≡ Answer.Commit (number n) → CommitsRow t u (slot_of t n) (row_of_number t n) → Decision t n a u
-  cycles : Cycle Goes (row_of_number t n ∷ kept t) → a ≡ Answer.Cycle (number n) → Frees t u (slot_of t n) → Decision t n a u
+pub data Decision (t : Table) (n : ℕ) (a : CallAnswer) (u : Table) : Type 0 where
+  commits : ¬ Cycle Goes (row_of_number t n ∷ kept t) → a ≡ Ok (Answer.Commit (number n)) → CommitsRow t u (slot_of t n) (row_of_number t n) → Decision t n a u
+  cycles : Cycle Goes (row_of_number t n ∷ kept t) → a ≡ Ok (Answer.Cycle (number n)) → Frees t u (slot_of t n) → Decision t n a u
 
 -- on every table, so at every decision. A table has eight highest tickets.
 abbrev pub CommitsExactly : Type 0
-CommitsExactly = (t : held.Table) (n : ℕ) (a : Answer) (u : held.Table) → CallGives t (decide n) a u
+CommitsExactly = (t : held.Table) (n : ℕ) (a : CallAnswer) (u : held.Table) → CallGives t (decide n) a u
     → length t.held.high ≡ 8 → ¬ Closed t.held → ¬ Unknown t.held n → ¬ NotPrepared (row_of_number t.held n) → Decision t.held n a u.held
 
 -- where the slot of a known number is, which the above speak of
@@ -83,17 +84,17 @@ SlotFound = (t : Table) (n : ℕ) → ¬ Unknown t n → ((row_of_number t n).st
 
 pub record ForgetsExactly : Type 0 where
   -- on every table: by RULES, Forgetting
-  pub rule : (t : held.Table) (n : ℕ) (a : Answer) (u : held.Table) → CallGives t (forget n) a u
+  pub rule : (t : held.Table) (n : ℕ) (a : CallAnswer) (u : held.Table) → CallGives t (forget n) a u
       → ¬ Closed t.held → ¬ Unknown t.held n → (row_of_number t.held n).state ≡ State.Committed
-      → (a ≡ Answer.Done) ↔ ((¬ HasPred t.held (row_of_number t.held n)) × (¬ HeldBack t.held (row_of_number t.held n)))
-  pub frees : (t : held.Table) (n : ℕ) (a : Answer) (u : held.Table) → CallGives t (forget n) a u → a ≡ Answer.Done → Frees t.held u.held (slot_of t.held n)
+      → (a ≡ Ok Answer.Done) ↔ ((¬ HasPred t.held (row_of_number t.held n)) × (¬ HeldBack t.held (row_of_number t.held n)))
+  pub frees : (t : held.Table) (n : ℕ) (a : CallAnswer) (u : held.Table) → CallGives t (forget n) a u → a ≡ Ok Answer.Done → Frees t.held u.held (slot_of t.held n)
   -- after every run: in the paper's words (Georgakopoulos, Rusinkiewicz and Sheth, Lemma 1). No kept one has an arrow to it, and whoever
   -- was active when it committed is committed or over by now.
   pub paper : (r : Run) (n : ℕ) → Kept (after r) n
-      → (answer_to r (forget n) ≡ Answer.Done) ↔ ((¬ HasPred (after r) (row_of_number (after r) n)) × ((m : ℕ) → Happened (CommitsBeside n m) r → Happened (Commits m) r ⊎ Over r m))
+      → (answer_to r (forget n) ≡ Ok Answer.Done) ↔ ((¬ HasPred (after r) (row_of_number (after r) n)) × ((m : ℕ) → Happened (CommitsBeside n m) r → Happened (Commits m) r ⊎ Over r m))
 
 -- a sweep of an open table
-pub record Sweeps (t : Table) (a : Answer) (u : Table) : Type 0 where
+pub record Sweeps (t : Table) (a : CallAnswer) (u : Table) : Type 0 where
   -- a committed row stays exactly if a path, possibly of no arrows, reaches it from a kept one that an older active one holds back
   pub rows : (i : ℕ) → (row_at t i).state ≡ State.Committed
       → (Reached Goes (HeldBack t) (kept t) (row_at t i) × (row_at u i ≡ row_at t i)) ⊎ ((¬ Reached Goes (HeldBack t) (kept t) (row_at t i)) × (row_at u i ≡ free_row))
@@ -102,10 +103,10 @@ pub record Sweeps (t : Table) (a : Answer) (u : Table) : Type 0 where
   pub slots : length u.rows ≡ length t.rows
   pub rest : RestSame t u
   -- the answer is the number of slots freed
-  pub count : (k : ℕ) × (a ≡ Answer.Swept k) × (free_slots u.rows ≡ free_slots t.rows + k)
+  pub count : (k : ℕ) × (a ≡ Ok (Answer.Swept k)) × (free_slots u.rows ≡ free_slots t.rows + k)
 
 pub record SweepsExactly : Type 0 where
-  pub every : (t : held.Table) (a : Answer) (u : held.Table) → CallGives t sweep a u → ¬ Closed t.held → Sweeps t.held a u.held
+  pub every : (t : held.Table) (a : CallAnswer) (u : held.Table) → CallGives t sweep a u → ¬ Closed t.held → Sweeps t.held a u.held
   -- after every run: forgets one by one, each accepted, give the same table, and then no forget is accepted
   pub forgets : (r : Run) → ¬ Closed (after r) → (ns : List ℕ) × ForgetAll (after r) ns (step (after r) sweep).table
   pub none : (r : Run) → ¬ Closed (after r) → NoneToForget (step (after r) sweep).table

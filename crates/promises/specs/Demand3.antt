@@ -78,7 +78,7 @@ pub record KeptOf (r : Run) : Type 0 where
   pub good : GoodRows (kept_flat (after r))
   pub ordered : (o : List ℕ) × InOrder (kept_entries (after r)) o
   -- so a message is never answered 12 or 13, nor 11 or 14, whatever it is: only 10 and what calls are refused with
-  pub never : (b : List ℕ) (k : ℕ) → (desk_body (after r) b).1 ≡ refused_line k → k ∈ 10 ∷ call_refusals
+  pub never : (b : List ℕ) (k : Refusal) → (desk_body (after r) b).1 ≡ refused_line k → k ∈ Refusal.BadBody ∷ call_refusals
   -- an order is answered with an order, the smallest number first
   pub order : ¬ Closed (after r)
       → (o : List ℕ) × (desk (after r) ordering ≡ (after r, Line.order o)) × InOrder (kept_entries (after r)) o × SmallestFirst EntryArrow number_of (kept_entries (after r)) o
@@ -91,4 +91,4 @@ KeptRows = (r : Run) → KeptOf r
 
 -- no line of the service is 12, 13 or 14, whatever bytes it reads: only 11, 10 and what calls are refused with
 abbrev pub NeverInStream : Type 0
-NeverInStream = (l : List ℕ) (k : ℕ) → refused_line k ∈ lines_of closed (stream_of l) → k ∈ 11 ∷ 10 ∷ call_refusals
+NeverInStream = (l : List ℕ) (k : Refusal) → refused_line k ∈ lines_of closed (stream_of l) → k ∈ Refusal.BadFrame ∷ Refusal.BadBody ∷ call_refusals

@@ -1,6 +1,7 @@
 -- What the contracts of the public functions say of a result, with the arguments in front and the result behind. A promise that is
 -- stated for all that meets one of these holds of all that the function can give. The code has the same words behind `ensures`: the
 -- functions of `witness` call it, and are proved to give what stands here.
+use Rattle.method.specs.Calls.{CallAnswer}
 use Rattle.std.specs.Prelude.{◌≡◌, Bool, List, ℕ, Option, length, take, Result}
 use Rattle.endian.specs.Laid.{laid, stored}
 use Rattle.decimal.specs.Written.{written_count}
@@ -33,7 +34,7 @@ use Rattle.turns.specs.declared.Turn.{Turn}
 use Rattle.turns.specs.Turn.{Turned, turn}
 
 -- the eight calls of `table`, the eight of `lent` and the eight that lend: the answer a, and the table u that is left
-abbrev pub CallGives : Table → Call → Answer → Table → Type 0
+abbrev pub CallGives : Table → Call → CallAnswer → Table → Type 0
 CallGives t c a u = (a ≡ answer_to t c) × (u ≡ table_after t c)
 
 -- checker::check(rows, order); ccheck::order_check(rows, order), on bytes

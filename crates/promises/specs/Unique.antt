@@ -1,5 +1,6 @@
 -- Demand 1, its word `one`: two results that meet the contract of a public function are equal, table and lent memory too.
 -- proofs/ProvedUnique.antt has the proof.
+use Rattle.method.specs.Calls.{CallAnswer}
 use Rattle.std.specs.Prelude.{◌≡◌, Bool, List, ℕ, Option, Result}
 use Rattle.orders.specs.Arrow.{Tickets}
 use Rattle.paths.specs.Paths.{TellsCycle, TellsReached}
@@ -22,7 +23,7 @@ EqualLeavesOne = (A : Type 0) (f x y : A) → x ≡ f → y ≡ f → x ≡ y
 
 pub record Unique : Type 0 where
   -- a call, by value, lent or lending: the answer and the table
-  pub calls : (t : Table) (c : Call) (a b : Answer) (u v : Table) → CallGives t c a u → CallGives t c b v → (a ≡ b) × (u ≡ v)
+  pub calls : (t : Table) (c : Call) (a b : CallAnswer) (u v : Table) → CallGives t c a u → CallGives t c b v → (a ≡ b) × (u ≡ v)
   -- the answer, and what the lent buffer holds
   pub write : (flat : List ℕ) (place : ℕ) (out : List ℕ) (a b : Result ℕ Refusal) (k l : List ℕ) → WriteGives flat place out a k → WriteGives flat place out b l → (a ≡ b) × (k ≡ l)
   pub message : (body out : List ℕ) (place : ℕ) (a b : Result ℕ Refusal) (k l : List ℕ) → MessageGives body out place a k → MessageGives body out place b l → (a ≡ b) × (k ≡ l)

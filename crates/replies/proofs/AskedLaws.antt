@@ -12,7 +12,7 @@ use Rattle.method.specs.declared.Table as method
 use Rattle.method.specs.Calls.{Call}
 use Rattle.method.proofs.RecordLaws.{never}
 use Rattle.method.specs.Effects.{step}
-use Rattle.table.specs.declared.Answered.{Answered}
+use Rattle.method.specs.declared.Answered.{Answered}
 use Rattle.table.specs.declared.Table.{Table}
 use Rattle.table.specs.Shut.{shut_table, answer_to, table_after}
 use Rattle.wire.specs.declared.reader.Request.{Request}
@@ -30,13 +30,13 @@ use Rattle.replies.specs.Desk.{answer_line, told, desk, desk_body}
 use Rattle.replies.specs.Asked.{sort_of, asked_of}
 
 -- the answer of the reader, from the sort that it was given
-abbrev unsorted : Asked → Result Request Refusal
-unsorted Asked.Nothing = Err Refusal.BadBody
-unsorted (Asked.Call q) = Ok q
-unsorted (Asked.Proposal c) = Ok (Proposing c)
-unsorted Asked.Order = Ok Ordering
+abbrev unsorted : Result Asked Refusal → Result Request Refusal
+unsorted (Ok (Asked.Call q)) = Ok q
+unsorted (Ok (Asked.Proposal c)) = Ok (Proposing c)
+unsorted (Ok Asked.Order) = Ok Ordering
+unsorted (Err r) = Err r
 
-sort_back : (q : Request) → unsorted (sort_of q) ≡ Ok q
+sort_back : (q : Request) → unsorted (Ok (sort_of q)) ≡ Ok q
 sort_back (Opening n c) = refl
 sort_back (Beginning s) = refl
 sort_back (Ticketing n s k) = refl
@@ -48,9 +48,9 @@ sort_back Sweeping = refl
 sort_back (Proposing c) = refl
 sort_back Ordering = refl
 
-back : (o : Option Message) → unsorted (asked_of (body_answer o)) ≡ body_answer o
-back None = refl
-back (Some m) = sort_back (request_of m)
+back : (a : Result Request Refusal) → unsorted (asked_of a) ≡ a
+back (Ok q) = sort_back q
+back (Err r) = refl
 
 -- the kind of a message
 abbrev kind_of : Message → ℕ
@@ -78,16 +78,16 @@ module _ (b : List ℕ) where
       let i : kind_of m ≡ k = rw (← a) (kind_at k h.known) in
       (rw i (omega (arith, h.bytes)), length_le_of_entries k (length b) n c)
 
-  read_of_asked : (x : Asked) → asked_of (body_answer (message_of b)) ≡ x → body_answer (message_of b) ≡ unsorted x
-  read_of_asked x e = sym (back (message_of b)) ∙ ap unsorted e
+  read_of_asked : (x : Result Asked Refusal) → asked_of (body_answer (message_of b)) ≡ x → body_answer (message_of b) ≡ unsorted x
+  read_of_asked x e = sym (back (body_answer (message_of b))) ∙ ap unsorted e
 
-  pub request_of_call : (q : Request) → asked_of (body_answer (message_of b)) ≡ Asked.Call q → body_answer (message_of b) ≡ Ok q
-  request_of_call q = read_of_asked (Asked.Call q)
+  pub request_of_call : (q : Request) → asked_of (body_answer (message_of b)) ≡ Ok (Asked.Call q) → body_answer (message_of b) ≡ Ok q
+  request_of_call q = read_of_asked (Ok (Asked.Call q))
 
   -- a proposal and a request for an order are no calls
-  module _ (q : Request) (h : asked_of (body_answer (message_of b)) ≡ Asked.Call q) where
+  module _ (q : Request) (h : asked_of (body_answer (message_of b)) ≡ Ok (Asked.Call q)) where
     sorted : sort_of q ≡ Asked.Call q
-    sorted = sym (ap asked_of (request_of_call q h)) ∙ h
+    sorted = let e : asked_of (Ok q) ≡ Ok (Asked.Call q) = sym (ap asked_of (request_of_call q h)) ∙ h in cc
 
     pub not_proposal : (c : ℕ) → q ≡ Proposing c → ⊥
     not_proposal c e = let f : Asked.Proposal c ≡ Asked.Call q = sym (ap sort_of e) ∙ sorted in never (cc)
@@ -95,14 +95,11 @@ module _ (b : List ℕ) where
     pub not_order : q ≡ Ordering → ⊥
     not_order e = let f : Asked.Order ≡ Asked.Call q = sym (ap sort_of e) ∙ sorted in never (cc)
 
-  pub wrong_of_nothing : asked_of (body_answer (message_of b)) ≡ Asked.Nothing → body_answer (message_of b) ≡ Err Refusal.BadBody
-  wrong_of_nothing = read_of_asked Asked.Nothing
+  pub request_of_proposal : (c : ℕ) → asked_of (body_answer (message_of b)) ≡ Ok (Asked.Proposal c) → body_answer (message_of b) ≡ Ok (Proposing c)
+  request_of_proposal c = read_of_asked (Ok (Asked.Proposal c))
 
-  pub request_of_proposal : (c : ℕ) → asked_of (body_answer (message_of b)) ≡ Asked.Proposal c → body_answer (message_of b) ≡ Ok (Proposing c)
-  request_of_proposal c = read_of_asked (Asked.Proposal c)
-
-  pub request_of_order : asked_of (body_answer (message_of b)) ≡ Asked.Order → body_answer (message_of b) ≡ Ok Ordering
-  request_of_order = read_of_asked Asked.Order
+  pub request_of_order : asked_of (body_answer (message_of b)) ≡ Ok Asked.Order → body_answer (message_of b) ≡ Ok Ordering
+  request_of_order = read_of_asked (Ok Asked.Order)
 
   module _ (q : Request) (h : body_answer (message_of b) ≡ Ok q) where
     pub desk_of_request : (t : method.Table) → desk_body t b ≡ desk t (message_with q b)
@@ -125,8 +122,8 @@ module _ (b : List ℕ) where
         (low, e, omega (arith, length_words (drop 1 b), length-drop 1 b))
 
 -- a call's answer handed on is what the desk owes, for each message that is one call
-module _ (t : Table) (b : List ℕ) (q p : Request) (h : asked_of (body_answer (message_of b)) ≡ Asked.Call q) (e : q ≡ p) where
-  pub handed : (c : Call) → desk t.held (message_with p b) ≡ told (step t.held c) → (a : Answered)
+module _ (t : Table) (b : List ℕ) (q p : Request) (h : asked_of (body_answer (message_of b)) ≡ Ok (Asked.Call q)) (e : q ≡ p) where
+  pub handed : (c : Call) → desk t.held (message_with p b) ≡ told (step t.held c) → (a : Answered Table)
       → (a.answer ≡ answer_to t c) × (a.table ≡ table_after t c)
       → (a.table ≡ shut_table (desk_body t.held b).0) × (answer_line a.answer ≡ (desk_body t.held b).1)
   handed c d a s =

@@ -7,6 +7,7 @@ use mathlib.Core.List.{List, ◌∷◌}
 use mathlib.Core.Logic.{◌↔◌, inl, inr}
 use Rattle.std.proofs.Common.{Option, Some, None}
 use Prim.Native.Nat.{ℕ}
+use Rattle.refusals.specs.declared.Refusal.{Refusal}
 use Rattle.graph.specs.Lists.{◌∈◌}
 use Rattle.graph.specs.Path.{Cycle}
 use Rattle.graph.specs.Acyclic.{acyclic}
@@ -55,12 +56,12 @@ module _ (t : Table) (g : GoodRows (kept_flat t)) (x : (o : List ℕ) × InOrder
   proposal_line_lem ns b e = rw (good→goodb (kept_flat t) g, e)
 
   -- no message gets 12 or 13
-  module _ (k : ℕ) where
+  module _ (k : Refusal) where
     open_listed : (y : Line) → ¬ (y ≡ refused_line k) → if_open t y ≡ refused_line k → k ∈ call_refusals
     open_listed y n = go (is_closed t)
       where
-        go : (b : Bool) → cond b (refused_line 1) y ≡ refused_line k → k ∈ call_refusals
-        go true e = here (let f : 1 ≡ k = cc in sym f)
+        go : (b : Bool) → cond b (refused_line Refusal.NotOpen) y ≡ refused_line k → k ∈ call_refusals
+        go true e = here (let f : Refusal.NotOpen ≡ k = cc in sym f)
         go false e = absurd (n e)
 
     not_refused : (b : Bool) → ¬ (cond b good_line bad_line ≡ refused_line k)
@@ -72,12 +73,12 @@ module _ (t : Table) (g : GoodRows (kept_flat t)) (x : (o : List ℕ) × InOrder
     reply_listed (proposes ns) e = open_listed (proposal_line (kept_flat t) ns) (λ f. not_refused (in_orderb rows ns) (sym (proposal_line_lem ns (in_orderb rows ns) refl) ∙ f)) e
     reply_listed wants_order e = open_listed (order_line (kept_flat t)) (λ g. let f = sym order_line_lem ∙ g in never (cc)) e
 
-    pub body_listed : (b : List ℕ) → (desk_body t b).1 ≡ refused_line k → k ∈ 10 ∷ call_refusals
+    pub body_listed : (b : List ℕ) → (desk_body t b).1 ≡ refused_line k → k ∈ Refusal.BadBody ∷ call_refusals
     unfolding desk
     body_listed b = go (message_of b)
       where
-        go : (o : Option Message) → (desk_read t o).1 ≡ refused_line k → k ∈ 10 ∷ call_refusals
-        go None e = here (let f : 10 ≡ k = cc in sym f)
+        go : (o : Option Message) → (desk_read t o).1 ≡ refused_line k → k ∈ Refusal.BadBody ∷ call_refusals
+        go None e = here (let f : Refusal.BadBody ≡ k = cc in sym f)
         go (Some m) e = behind (reply_listed (asks_for m) e)
 
   -- what an open table answers

@@ -7,11 +7,16 @@ use mathlib.Core.List.{List, ◌∷◌}
 use mathlib.Core.Logic.{◌↔◌, ◌≢◌, inl}
 use Rattle.std.proofs.Common.{Option, Some, None}
 use Prim.Native.Nat.{ℕ}
+use Rattle.std.specs.Prelude.{Ok, Err}
+use Rattle.refusals.specs.declared.Refusal.{Refusal}
+use Rattle.refusals.specs.Numbers.{number_of}
 use Rattle.endian.specs.Places.{Below}
 use Rattle.graph.specs.Lists.{◌∈◌}
 use Rattle.graph.specs.Acyclic.{acyclic}
 use Rattle.graph.specs.Order.{greedy}
-use Rattle.graph.proofs.MemberLaws.{not_member_of_test}
+use lib.Dec.{eqb}
+use Rattle.graph.proofs.TestLaws.{true_not_false}
+use Rattle.graph.proofs.MemberLaws.{any_of_member}
 use Rattle.orders.specs.Entries.{number_of, entry_arrowb, entries_in}
 use Rattle.orders.specs.Good.{goodb}
 use Rattle.orders.specs.Order.{in_orderb}
@@ -25,7 +30,7 @@ use Rattle.method.specs.declared.Table.{Table}
 use Rattle.method.specs.declared.Answer.{Answer}
 use Rattle.method.specs.Slots.{kept_flat}
 use Rattle.method.specs.Conditions.{Closed, is_closed}
-use Rattle.method.specs.Calls.{Call, rules, call_refusals, FirstHolds}
+use Rattle.method.specs.Calls.{Call, CallAnswer, rules, call_refusals, FirstHolds}
 use Rattle.method.specs.Calls.Call.{open_with, begin, report_ticket, report_prepared, abort, decide, forget, sweep}
 use Rattle.method.specs.Effects.{step}
 use Rattle.method.proofs.RecordLaws.{never}
@@ -35,44 +40,44 @@ use Rattle.queries.specs.Queries.{proposal_line, order_line, if_open}
 use Rattle.replies.specs.Desk.{answer_line, told, Asks, Asks.calls, Asks.proposes, Asks.wants_order, asks_for, reply_to, desk, desk_read, desk_body}
 use Rattle.method.proofs.ListedLaws.{refusal_listed}
 
-pub refused_of_line : (a : Answer) (k : ℕ) → answer_line a ≡ refused_line k → a ≡ Answer.Refused k
-refused_of_line Answer.Done k e = never (cc)
-refused_of_line (Answer.Begun n) k e = never (cc)
-refused_of_line (Answer.Commit n) k e = never (cc)
-refused_of_line (Answer.Cycle n) k e = never (cc)
-refused_of_line (Answer.Swept c) k e = never (cc)
-refused_of_line (Answer.Refused r) k e = ap {B = Answer} (λ (i : ℕ). Answer.Refused i) (cc)
+pub refused_of_line : (a : CallAnswer) (k : Refusal) → answer_line a ≡ refused_line k → a ≡ Err k
+refused_of_line (Ok Answer.Done) k e = never (cc)
+refused_of_line (Ok (Answer.Begun n)) k e = never (cc)
+refused_of_line (Ok (Answer.Commit n)) k e = never (cc)
+refused_of_line (Ok (Answer.Cycle n)) k e = never (cc)
+refused_of_line (Ok (Answer.Swept c)) k e = never (cc)
+refused_of_line (Err r) k e = let h : r ≡ k = cc in ap {B = CallAnswer} Err h
 
 -- beside a call's refusals there are 12 and 13, of a bad table of kept rows
-abbrev refusals : List ℕ
-refusals = 12 ∷ 13 ∷ call_refusals
+abbrev refusals : List Refusal
+refusals = Refusal.NoOrder ∷ Refusal.BadRows ∷ call_refusals
 
 -- a line of the desk that is a refusal leaves the table
-module _ (t : Table) (k : ℕ) where
+module _ (t : Table) (k : Refusal) where
   abbrev Refuses : Table × Line → Type 0
   Refuses x = x.1 ≡ refused_line k → (k ∈ refusals) × (x.0 ≡ t)
 
   open_refuses : (x : Line) → (x ≡ refused_line k → k ∈ refusals) → Refuses (t, if_open t x)
   open_refuses x h = go (is_closed t)
     where
-      go : (b : Bool) → Refuses (t, cond b (refused_line 1) x)
-      go true e = (behind (behind (here (let f : 1 ≡ k = cc in sym f))), refl)
+      go : (b : Bool) → Refuses (t, cond b (refused_line Refusal.NotOpen) x)
+      go true e = (behind (behind (here (let f : Refusal.NotOpen ≡ k = cc in sym f))), refl)
       go false e = (h e, refl)
 
   proposal_refuses : (flat ns : List ℕ) → proposal_line flat ns ≡ refused_line k → k ∈ refusals
   proposal_refuses flat ns = go (goodb flat) (in_orderb (entries_in flat) ns)
     where
-      go : (g o : Bool) → judged (refused_line 13) good_line bad_line g o ≡ refused_line k → k ∈ refusals
-      go false o e = behind (here (let f : 13 ≡ k = cc in sym f))
+      go : (g o : Bool) → judged (refused_line Refusal.BadRows) good_line bad_line g o ≡ refused_line k → k ∈ refusals
+      go false o e = behind (here (let f : Refusal.BadRows ≡ k = cc in sym f))
       go true true e = never (cc)
       go true false e = never (cc)
 
   order_refuses : (flat : List ℕ) → order_line flat ≡ refused_line k → k ∈ refusals
   order_refuses flat = go (goodb flat) (acyclic entry_arrowb (entries_in flat))
     where
-      go : (g a : Bool) → cond g (cond a (Line.order (greedy entry_arrowb number_of (entries_in flat))) (refused_line 12)) (refused_line 13) ≡ refused_line k → k ∈ refusals
-      go false a e = behind (here (let f : 13 ≡ k = cc in sym f))
-      go true false e = here (let f : 12 ≡ k = cc in sym f)
+      go : (g a : Bool) → cond g (cond a (Line.order (greedy entry_arrowb number_of (entries_in flat))) (refused_line Refusal.NoOrder)) (refused_line Refusal.BadRows) ≡ refused_line k → k ∈ refusals
+      go false a e = behind (here (let f : Refusal.BadRows ≡ k = cc in sym f))
+      go true false e = here (let f : Refusal.NoOrder ≡ k = cc in sym f)
       go true true e = never (cc)
 
   reply_refuses : (a : Asks) → Refuses (reply_to t a)
@@ -91,45 +96,42 @@ module _ (t : Table) (k : ℕ) where
       go None e = refl
       go (Some m) e = (desk_refuses m e).1
 
-pub ten_of_no_message : (t : Table) (b : List ℕ) → message_of b ≡ None → desk_body t b ≡ (t, refused_line 10)
-ten_of_no_message t b e = rw e
-
 -- 10 exactly if the body is no message's
-pub ten_iff : (t : Table) (b : List ℕ) → Below 256 b → ((desk_body t b).1 ≡ refused_line 10) ↔ NoBody b
+pub ten_iff : (t : Table) (b : List ℕ) → Below 256 b → ((desk_body t b).1 ≡ refused_line Refusal.BadBody) ↔ NoBody b
 ten_iff t b w = go (message_of b) refl
   where
-    not_ten : ¬ (10 ∈ refusals)
-    not_ten = not_member_of_test 10 refusals refl
+    not_ten : ¬ (Refusal.BadBody ∈ refusals)
+    not_ten m = true_not_false (any_of_member (λ (q : Refusal). eqb (number_of Refusal.BadBody) (number_of q)) m refl) refl
 
-    go : (o : Option Message) → message_of b ≡ o → ((desk_read t o).1 ≡ refused_line 10) ↔ NoBody b
+    go : (o : Option Message) → message_of b ≡ o → ((desk_read t o).1 ≡ refused_line Refusal.BadBody) ↔ NoBody b
     go None e = (λ x. no_body_of_none b e, λ x. refl)
-    go (Some m) e = (λ x. absurd (not_ten (desk_refuses t 10 m x).0), λ x. absurd (let p = body_of_message b w m e in x m p.1 p.0))
+    go (Some m) e = (λ x. absurd (not_ten (desk_refuses t Refusal.BadBody m x).0), λ x. absurd (let p = body_of_message b w m e in x m p.1 p.0))
 
-pub desk_of_none : (t : Table) (b : List ℕ) → Below 256 b → NoBody b → desk_body t b ≡ (t, refused_line 10)
+pub desk_of_none : (t : Table) (b : List ℕ) → Below 256 b → NoBody b → desk_body t b ≡ (t, refused_line Refusal.BadBody)
 desk_of_none t b w h = go (message_of b) refl
   where
-    go : (o : Option Message) → message_of b ≡ o → desk_read t o ≡ (t, refused_line 10)
+    go : (o : Option Message) → message_of b ≡ o → desk_read t o ≡ (t, refused_line Refusal.BadBody)
     go None e = refl
     go (Some m) e = absurd (let p = body_of_message b w m e in h m p.1 p.0)
 
 -- a refused call's line
-told_refused : (t : Table) (c : Call) (k : ℕ) → FirstHolds (rules t c) k → told (step t c) ≡ (t, refused_line k)
+told_refused : (t : Table) (c : Call) (k : Refusal) → FirstHolds (rules t c) k → told (step t c) ≡ (t, refused_line k)
 told_refused t c k f = let e = (refused_exactly t c k).1 f in rw (e, refused_keeps t c k e) refl
 
 module _ (t : Table) where
   -- before a good opening: every call but the opening has 1 ahead of its other checks
-  closed_call : Closed t → (c : Call) → ((n : ℕ) (fs : List ℕ) → c ≢ open_with n fs) → told (step t c) ≡ (t, refused_line 1)
+  closed_call : Closed t → (c : Call) → ((n : ℕ) (fs : List ℕ) → c ≢ open_with n fs) → told (step t c) ≡ (t, refused_line Refusal.NotOpen)
   unfolding rules
   closed_call cl (open_with n fs) d = absurd (d n fs refl)
-  closed_call cl (begin s) d = told_refused t (begin s) 1 (inl (cl, refl))
-  closed_call cl (report_ticket n s j) d = told_refused t (report_ticket n s j) 1 (inl (cl, refl))
-  closed_call cl (report_prepared n s) d = told_refused t (report_prepared n s) 1 (inl (cl, refl))
-  closed_call cl (abort n) d = told_refused t (abort n) 1 (inl (cl, refl))
-  closed_call cl (decide n) d = told_refused t (decide n) 1 (inl (cl, refl))
-  closed_call cl (forget n) d = told_refused t (forget n) 1 (inl (cl, refl))
-  closed_call cl sweep d = told_refused t sweep 1 (inl (cl, refl))
+  closed_call cl (begin s) d = told_refused t (begin s) Refusal.NotOpen (inl (cl, refl))
+  closed_call cl (report_ticket n s j) d = told_refused t (report_ticket n s j) Refusal.NotOpen (inl (cl, refl))
+  closed_call cl (report_prepared n s) d = told_refused t (report_prepared n s) Refusal.NotOpen (inl (cl, refl))
+  closed_call cl (abort n) d = told_refused t (abort n) Refusal.NotOpen (inl (cl, refl))
+  closed_call cl (decide n) d = told_refused t (decide n) Refusal.NotOpen (inl (cl, refl))
+  closed_call cl (forget n) d = told_refused t (forget n) Refusal.NotOpen (inl (cl, refl))
+  closed_call cl sweep d = told_refused t sweep Refusal.NotOpen (inl (cl, refl))
 
-  closed_reply : Closed t → (a : Asks) → ((n : ℕ) (fs : List ℕ) → a ≢ calls (open_with n fs)) → reply_to t a ≡ (t, refused_line 1)
+  closed_reply : Closed t → (a : Asks) → ((n : ℕ) (fs : List ℕ) → a ≢ calls (open_with n fs)) → reply_to t a ≡ (t, refused_line Refusal.NotOpen)
   closed_reply cl (calls c) d = closed_call cl c (λ n fs e. d n fs (ap {B = Asks} calls e))
   closed_reply cl (proposes ns) d = rw ((closed_iff t).1 cl)
   closed_reply cl wants_order d = rw ((closed_iff t).1 cl)
@@ -147,19 +149,19 @@ module _ (t : Table) where
   opening_of_asks (proposing ns) n fs e = never (cc)
   opening_of_asks ordering n fs e = never (cc)
 
-  closed_desk : Closed t → (m : Message) → ((n : ℕ) (fs : List ℕ) → m ≢ opening n fs) → desk t m ≡ (t, refused_line 1)
+  closed_desk : Closed t → (m : Message) → ((n : ℕ) (fs : List ℕ) → m ≢ opening n fs) → desk t m ≡ (t, refused_line Refusal.NotOpen)
   unfolding desk
   closed_desk cl m d = closed_reply cl (asks_for m) (λ n fs e. d n fs (opening_of_asks m n fs e))
 
-  open_desk : ¬ Closed t → (n : ℕ) (fs : List ℕ) → desk t (opening n fs) ≡ (t, refused_line 4)
+  open_desk : ¬ Closed t → (n : ℕ) (fs : List ℕ) → desk t (opening n fs) ≡ (t, refused_line Refusal.OutOfTurn)
   unfolding desk rules
-  open_desk nc n fs = told_refused t (open_with n fs) 4 (inl (nc, refl))
+  open_desk nc n fs = told_refused t (open_with n fs) Refusal.OutOfTurn (inl (nc, refl))
 
   body_of_lem : (m : Message) → InRange m → desk_body t (body_of m) ≡ desk t m
   body_of_lem m h = rw (message_of_body m h) refl
 
-  pub one_of_closed : (m : Message) → InRange m → ((n : ℕ) (fs : List ℕ) → m ≢ opening n fs) → Closed t → desk_body t (body_of m) ≡ (t, refused_line 1)
+  pub one_of_closed : (m : Message) → InRange m → ((n : ℕ) (fs : List ℕ) → m ≢ opening n fs) → Closed t → desk_body t (body_of m) ≡ (t, refused_line Refusal.NotOpen)
   one_of_closed m h d cl = body_of_lem m h ∙ closed_desk cl m d
 
-  pub four_of_open : (n : ℕ) (fs : List ℕ) → InRange (opening n fs) → ¬ Closed t → desk_body t (body_of (opening n fs)) ≡ (t, refused_line 4)
+  pub four_of_open : (n : ℕ) (fs : List ℕ) → InRange (opening n fs) → ¬ Closed t → desk_body t (body_of (opening n fs)) ≡ (t, refused_line Refusal.OutOfTurn)
   four_of_open n fs h nc = body_of_lem (opening n fs) h ∙ open_desk nc n fs

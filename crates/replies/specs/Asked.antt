@@ -1,4 +1,4 @@
--- What a body asks for, of four sorts: a call that changes the table, a proposal, an order, or it is no message.
+-- What a body asks for, of three sorts: a call that changes the table, a proposal, an order; or it is no message.
 use Rattle.wire.specs.declared.reader.Request.{Request}
 use Rattle.wire.specs.declared.reader.Request.TheVariants.{Opening, Beginning, Ticketing, Preparing, Aborting, Deciding, Forgetting, Sweeping, Proposing, Ordering}
 use Rattle.std.specs.Prelude.{Result, Ok, Err}
@@ -18,6 +18,6 @@ sort_of Sweeping = Asked.Call Sweeping
 sort_of (Proposing c) = Asked.Proposal c
 sort_of Ordering = Asked.Order
 
-abbrev pub asked_of : Result Request Refusal → Asked
-asked_of (Ok q) = sort_of q
-asked_of (Err r) = Asked.Nothing
+abbrev pub asked_of : Result Request Refusal → Result Asked Refusal
+asked_of (Ok q) = Ok (sort_of q)
+asked_of (Err r) = Err r

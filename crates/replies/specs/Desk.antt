@@ -1,7 +1,8 @@
 -- One message at the desk: the table after it, and its line. RULES, The service. Rests on the messages of `wire`, the lines of `lines`, the
 -- steps of `method` and the orders of `queries`.
-use Rattle.std.specs.Prelude.{List, ℕ}
+use Rattle.std.specs.Prelude.{Ok, Err, List, ℕ}
 use Rattle.std.specs.Prelude.{Option, Some, None}
+use Rattle.refusals.specs.declared.Refusal.{Refusal}
 use Rattle.lines.specs.declared.Words.{Words}
 use Rattle.lines.specs.Line.{Line, Line.say, refused_line}
 use Rattle.wire.specs.Message.{Message, opening, beginning, ticketing, preparing, aborting, deciding, forgetting, sweeping, proposing, ordering}
@@ -10,23 +11,23 @@ use Rattle.method.specs.declared.Answer.{Answer}
 use Rattle.method.specs.declared.Answered.{Answered}
 use Rattle.method.specs.declared.Table.{Table}
 use Rattle.method.specs.Slots.{kept_flat}
-use Rattle.method.specs.Calls.{Call}
+use Rattle.method.specs.Calls.{Call, CallAnswer}
 use Rattle.method.specs.Effects.{step}
 use Rattle.queries.specs.Queries.{proposal_line, order_line, if_open}
 
 -- a call's answer in words, and as a line
-abbrev pub answer_words : Answer → Words
-answer_words Answer.Done = Words.Ok
-answer_words (Answer.Begun n) = Words.Begin n.0
-answer_words (Answer.Commit n) = Words.Commit n.0
-answer_words (Answer.Cycle n) = Words.Cycle n.0
-answer_words (Answer.Swept c) = Words.Swept c
-answer_words (Answer.Refused r) = Words.Refused r
+abbrev pub answer_words : CallAnswer → Words
+answer_words (Ok Answer.Done) = Words.Ok
+answer_words (Ok (Answer.Begun n)) = Words.Begin n.0
+answer_words (Ok (Answer.Commit n)) = Words.Commit n.0
+answer_words (Ok (Answer.Cycle n)) = Words.Cycle n.0
+answer_words (Ok (Answer.Swept c)) = Words.Swept c
+answer_words (Err r) = Words.Refused r
 
-abbrev pub answer_line : Answer → Line
+abbrev pub answer_line : CallAnswer → Line
 answer_line a = say (answer_words a)
 
-abbrev pub told : Answered → Table × Line
+abbrev pub told : Answered Table → Table × Line
 told a = (a.table, answer_line a.answer)
 
 -- what a message asks for: a call, or something of the kept rows, which changes nothing
@@ -57,7 +58,7 @@ desk t m = reply_to t (asks_for m)
 
 -- a body, which may be no message
 abbrev pub desk_read : Table → Option Message → Table × Line
-desk_read t None = (t, refused_line 10)
+desk_read t None = (t, refused_line Refusal.BadBody)
 desk_read t (Some m) = desk t m
 
 abbrev pub desk_body : Table → List ℕ → Table × Line

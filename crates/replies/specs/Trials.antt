@@ -1,6 +1,7 @@
 -- Worked cases at the desk, each with its label: bodies in sequence on the closed table, and the line that each must get.
 -- proofs/TrialLaws.antt proves them all by computation.
 use Rattle.std.specs.Prelude.{List, [], ◌∷◌, ◌++◌, map, ℕ, replicate}
+use Rattle.refusals.specs.declared.Refusal.{Refusal}
 use Rattle.lines.specs.declared.Words.{Words}
 use Rattle.lines.specs.Line.{Line, Line.say, Line.order, ok_line as ok, good_line as good, bad_line as bad, refused_line as refused}
 use Rattle.wire.specs.Message.{Message, opening, beginning, ticketing, preparing, aborting, deciding, forgetting, sweeping, proposing, ordering, body_of}
@@ -50,16 +51,16 @@ trials =
     (both_begun ++ (commit 1 ∷ cycle 2 ∷ order (1 ∷ []) ∷ swept 1 ∷ order [] ∷ []))
     -- they agree: both commit, and the order is the tickets'
     ∷ trial 2 (both 1 2 2 1 ++ (ordering ∷ proposing (1 ∷ 2 ∷ []) ∷ proposing (2 ∷ 1 ∷ []) ∷ proposing (1 ∷ []) ∷ forgetting 2 ∷ forgetting 1 ∷ ordering ∷ []))
-    (both_begun ++ (commit 1 ∷ commit 2 ∷ order (1 ∷ 2 ∷ []) ∷ good ∷ bad ∷ bad ∷ refused 9 ∷ ok ∷ order (2 ∷ []) ∷ []))
+    (both_begun ++ (commit 1 ∷ commit 2 ∷ order (1 ∷ 2 ∷ []) ∷ good ∷ bad ∷ bad ∷ refused Refusal.TooEarly ∷ ok ∷ order (2 ∷ []) ∷ []))
     -- before a good opening everything is 1, and after one a second opening is 4
     ∷ trial 3
     (beginning 1 ∷ ticketing 1 0 1 ∷ preparing 1 0 ∷ aborting 1 ∷ deciding 1 ∷ forgetting 1 ∷ sweeping ∷ proposing [] ∷ ordering
     ∷ opening 1 [] ∷ opening 0 (0 ∷ []) ∷ opening 1 (0 ∷ []) ∷ opening 1 (0 ∷ []) ∷ proposing [] ∷ beginning 1 ∷ aborting 1 ∷ aborting 1 ∷ [])
-    (replicate 11 (refused 1) ++ (ok ∷ refused 4 ∷ good ∷ begin 1 ∷ ok ∷ refused 2 ∷ []))
+    (replicate 11 (refused Refusal.NotOpen) ++ (ok ∷ refused Refusal.OutOfTurn ∷ good ∷ begin 1 ∷ ok ∷ refused Refusal.Unknown ∷ []))
     -- what is no message is 10, opened or not, and changes nothing: no body, an unknown kind, a byte too many
     ∷ record {
       label = 4;
       bodies = [] ∷ (10 ∷ []) ∷ body_of (opening 1 (0 ∷ [])) ∷ [] ∷ (7 ∷ 0 ∷ []) ∷ body_of (beginning 1) ∷ [];
-      lines = refused 10 ∷ refused 10 ∷ ok ∷ refused 10 ∷ refused 10 ∷ begin 1 ∷ [];
+      lines = refused Refusal.BadBody ∷ refused Refusal.BadBody ∷ ok ∷ refused Refusal.BadBody ∷ refused Refusal.BadBody ∷ begin 1 ∷ [];
     }
     ∷ []

@@ -1,15 +1,14 @@
-// What a body asks for.
+// What a body asks for, or refusal 10 of the reader where it is no message.
 ghost use Rattle.std.specs.Prelude.{◌≡◌};
 ghost use Rattle.wire.specs.Answers.{body_answer};
 ghost use Rattle.wire.specs.Body.{message_of};
 ghost use Rattle.replies.specs.Asked.{sort_of, asked_of};
 
+use refusals::Refusal;
 use wire::reader::Request;
 
 #[derive(Drop)]
 pub enum Asked {
-    // no message: refusal 10
-    Nothing,
     // one of the eight that change the table
     Call(Request),
     // a proposal of so many numbers
@@ -27,11 +26,9 @@ fn sort(q: Request) -> Asked
     }
 }
 
-pub(crate) fn ask(body: &[u8]) -> Asked
+pub(crate) fn ask(body: &[u8]) -> Result<Asked, Refusal>
     ensures answer { result ≡ asked_of (body_answer (message_of body.now)) }
 {
-    match wire::reader::read_body(body) {
-        Ok(q) => sort(q),
-        Err(_) => Asked::Nothing,
-    }
+    let q = wire::reader::read_body(body)?;
+    Ok(sort(q))
 }

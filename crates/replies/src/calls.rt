@@ -1,5 +1,5 @@
 // The eight requests that are calls: the table is lent to the call, and its answer is told.
-ghost use Rattle.std.specs.Prelude.{◌≡◌};
+ghost use Rattle.std.specs.Prelude.{◌≡◌, Ok};
 ghost use Rattle.queries.specs.Said.{spoken_of};
 ghost use Rattle.wire.specs.Body.{message_of};
 ghost use Rattle.wire.specs.Answers.{body_answer};
@@ -11,47 +11,43 @@ ghost use Rattle.replies.specs.Asked.{asked_of};
 use crate::Replied;
 use crate::lists::open;
 use lines::Words;
-use method::{Answer, Number, Ticket};
+use method::{Answer, Answered, Number, Ticket};
 use queries::{Said, Spoken};
-use table::{Answered, Table};
+use refusals::Refusal;
+use table::Table;
 use wire::reader::Request;
 
 // A call's answer, as words.
-fn words_of(a: Answer) -> Words
+fn words_of(a: Result<Answer, Refusal>) -> Words
     ensures line { result ≡ answer_words a }
 {
     match a {
-        Answer::Done => Words::Ok,
-        Answer::Begun(n) => Words::Begin(n.0),
-        Answer::Commit(n) => Words::Commit(n.0),
-        Answer::Cycle(n) => Words::Cycle(n.0),
-        Answer::Swept(c) => Words::Swept(c),
-        Answer::Refused(r) => Words::Refused(r as u32),
+        Ok(Answer::Done) => Words::Ok,
+        Ok(Answer::Begun(n)) => Words::Begin(n.0),
+        Ok(Answer::Commit(n)) => Words::Commit(n.0),
+        Ok(Answer::Cycle(n)) => Words::Cycle(n.0),
+        Ok(Answer::Swept(c)) => Words::Swept(c),
+        Err(r) => Words::Refused(r),
     }
 }
 
 // The same with the table that the call left.
-pub(crate) fn tell(a: Answered) -> Replied
+pub(crate) fn tell(a: Answered<Table>) -> Replied
     ensures table { result.table ≡ a.table }
     ensures spoken { result.spoken ≡ spoken_of (answer_line a.answer) }
 {
-    let table = a.table;
-    let answer = a.answer;
-    let said = Said::Words(words_of(answer));
-    let numbers = [0; 32];
-    let spoken = Spoken {
-        said: said,
-        numbers: numbers,
-    };
     Replied {
-        table: table,
-        spoken: spoken,
+        table: a.table,
+        spoken: Spoken {
+            said: Said::Words(words_of(a.answer)),
+            numbers: [0; 32],
+        },
     }
 }
 
 // The request was read off the body, which has an opening's floors.
-pub(crate) fn call(t: Table, q: Request, body: &[u8]) -> Answered
-    requires { asked_of (body_answer (message_of body.now)) ≡ sorts.Asked.Call q }
+pub(crate) fn call(t: Table, q: Request, body: &[u8]) -> Answered<Table>
+    requires { asked_of (body_answer (message_of body.now)) ≡ Ok (sorts.Asked.Call q) }
     ensures table { result.table ≡ shut_table (desk_body t.held body.now).0 }
     ensures line { answer_line result.answer ≡ (desk_body t.held body.now).1 }
 {

@@ -8,9 +8,9 @@ ghost use Rattle.replies.specs.Desk.{desk_body};
 
 use asked::Asked;
 use calls::{call, tell};
-use method::Answer;
+use method::Answered;
 use queries::Spoken;
-use table::{Answered, Table};
+use table::Table;
 
 mod asked;
 mod calls;
@@ -28,27 +28,18 @@ pub fn reply(t: Table, body: &[u8]) -> Replied
     ensures spoken { result.spoken ≡ spoken_of (desk_body t.held body.now).1 }
 {
     match asked::ask(body) {
-        Asked::Nothing => {
-            let answer = Answer::Refused(10);
-            tell(Answered {
-                table: t,
-                answer: answer,
-            })
-        }
-        Asked::Call(q) => tell(call(t, q, body)),
-        Asked::Proposal(n) => {
-            let s = lists::propose(t, n, body);
-            Replied {
-                table: t,
-                spoken: s,
-            }
-        }
-        Asked::Order => {
-            let s = queries::give(t);
-            Replied {
-                table: t,
-                spoken: s,
-            }
-        }
+        Ok(Asked::Call(q)) => tell(call(t, q, body)),
+        Ok(Asked::Proposal(n)) => Replied {
+            table: t,
+            spoken: lists::propose(&t, n, body),
+        },
+        Ok(Asked::Order) => Replied {
+            table: t,
+            spoken: queries::give(&t),
+        },
+        Err(r) => tell(Answered {
+            table: t,
+            answer: Err(r),
+        }),
     }
 }

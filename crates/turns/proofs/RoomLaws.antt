@@ -6,6 +6,7 @@ use lib.ListN.{length, take, length-append, length-drop}
 use lib.Seq.{length-take-le}
 use borrow.Author.Tests.{le-leb}
 use native.Mathlib.Omega.{arith}
+use Rattle.refusals.specs.declared.Refusal.{Refusal}
 use Rattle.std.specs.Prelude.{Some}
 use Rattle.endian.specs.Laid.{laid, stored}
 use Rattle.decimal.specs.Written.{written_count}
@@ -26,9 +27,9 @@ pub eleven_room : (out : List ℕ) (place : ℕ) → place + 358 ≤ length out
     → (written_count out place eleven ≡ Some (length eleven)) × (stored out place eleven ≡ laid out place eleven) × (length eleven ≤ 358)
 unfolding eleven
 eleven_room out place h =
-    let i : InRange (refused_line 11) = record { numbers = (omega arith, tt); few = omega arith } in
-    let w = written_of_358 out place (refused_line 11) i h in
-    (sym w.0, sym w.1, length_line_le (refused_line 11) i)
+    let i : InRange (refused_line Refusal.BadFrame) = record { numbers = (omega arith, tt); few = omega arith } in
+    let w = written_of_358 out place (refused_line Refusal.BadFrame) i h in
+    (sym w.0, sym w.1, length_line_le (refused_line Refusal.BadFrame) i)
 
 -- what was laid over a list without making it longer fitted
 pub laid_fits : (l v : List ℕ) (place : ℕ) → place ≤ length l → length (laid l place v) ≡ length l → place + length v ≤ length l

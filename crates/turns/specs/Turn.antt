@@ -1,5 +1,6 @@
 -- One turn: the whole messages at hand are answered into a buffer, as far as it has room. RULES, The service. `left` is the room; a message
 -- whose line might not fit, the longest line being 358 bytes, is not touched. `last` says that no more input comes.
+use Rattle.refusals.specs.declared.Refusal.{Refusal}
 use Rattle.std.specs.Prelude.{Bool, true, false, cond, ◌&&◌, List, [], ◌++◌, ℕ, ◌+◌, ◌-◌, leb, length}
 use Rattle.lines.specs.Line.{line_bytes, refused_line}
 use Rattle.frames.specs.Stream.{Stream, ended, cut_off, framed}
@@ -20,7 +21,7 @@ abbrev pub stops : Table → Turned
 stops t = turned t 0 [] false
 
 unfoldable pub eleven : List ℕ
-eleven = line_bytes (refused_line 11)
+eleven = line_bytes (refused_line Refusal.BadFrame)
 
 -- 11 is the last line
 abbrev pub ends : Table → Turned

@@ -9,6 +9,7 @@ ghost use Rattle.turns.specs.Turn.{turn, eleven};
 ghost use Rattle.turns.specs.Struct.{turn_of};
 
 use lines::Words;
+use refusals::Refusal;
 use table::Table;
 
 // The table after the turn, how many bytes of input were used and of output written, and whether reading is over: the last line
@@ -27,7 +28,7 @@ fn last_line(table: Table, used: usize, out: &mut [u8], written: usize) -> Turn
     ensures answer { result ≡ turn_of table used (written + length eleven) true }
     ensures buffer { out.new ≡ laid out.old written eleven }
 {
-    let n = lines::write_line(Words::Refused(11), out, written).unwrap();
+    let n = lines::write_line(Words::Refused(Refusal::BadFrame), out, written).unwrap();
     Turn {
         table,
         used,
