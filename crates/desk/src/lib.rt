@@ -29,13 +29,10 @@ pub fn serve(t: Table, body: &[u8], out: &mut [u8], place: usize) -> Served
             count: None,
         };
     }
-    let Replied {
-        table: after,
-        spoken,
-    } = replies::reply(t, body);
+    let Replied { table, spoken } = replies::reply(t, body);
     let n = said::say(spoken.said, &spoken.numbers, out, place);
     Served {
-        table: after,
+        table,
         count: Some(n),
     }
 }
