@@ -1,13 +1,13 @@
 -- Warshall's steps on the square of arrows: after k of them it holds `reach` of k, and after all 32 the paths. The step of a
 -- slot without a ticket would change nothing, since no path leaves it. Assumes nothing.
 use mathlib.Core.Path.{◌≡◌, sym, ◌∙◌}
-use mathlib.Core.Bool.{Bool, true, false, ◌||◌, and-false, or-false}
+use mathlib.Core.Bool.{Bool, true, false, and-false, or-false}
 use mathlib.Core.List.{List, [], map}
 use mathlib.Core.Logic.{◌↔◌}
 use Prim.Native.Nat.{ℕ, zero, suc, ◌+◌, ◌<◌, ◌≤◌}
 use native.Mathlib.Numerals.{add-one}
 use native.Mathlib.Omega.{arith}
-use lib.ListN.{length, get_or, replicate}
+use lib.ListN.{length, replicate}
 use Rattle.std.proofs.lemmas.List.{get_or-map, length-map}
 use Rattle.graph.specs.Reach.{reach}
 use Rattle.graph.proofs.PathLaws.{path_of_weaker}
@@ -15,16 +15,8 @@ use Rattle.graph.proofs.ReachLaws.{reach_zero, reach_step, reach_iff_path}
 use Rattle.orders.specs.Arrow.{Tickets, arrowb}
 use Rattle.orders.proofs.ArrowLaws.{arrowb→arrow, arrow→arrowb}
 use Rattle.paths.specs.Paths.{ticket_row, SlotPath}
-use Rattle.paths.specs.Entries.{slot_arrow, RowIs, SquareIs, entry, over, After, PathSquare}
+use Rattle.paths.specs.Entries.{slot_arrow, SquareIs, entry, over, After, PathSquare}
 use Rattle.paths.proofs.SlotLaws.{no_arrow_from_none}
-
--- a row with a yes at k gets what row k has, and a row without one stays
-module _ (square : List (List Bool)) (k i : ℕ) (row : List Bool) (e : row ≡ get_or square i []) where
-  pub over_of_yes : get_or row k false ≡ true → (new : List Bool) → RowIs (λ j. get_or row j false || entry square k j) new → RowIs (over square k i) new
-  over_of_yes y new h j l = rw (h j l, e, rw e at y)
-
-  pub over_of_no : get_or row k false ≡ false → RowIs (over square k i) row
-  over_of_no n j l = rw (e, rw e at n) (sym (or-false (entry square i j)))
 
 module _ (slots : List Tickets) where
   pub after_none : length slots ≡ 32 → After slots 0 (map (λ a. map (arrowb a) slots) slots)

@@ -3,23 +3,15 @@ use mathlib.Core.Path.{◌≡◌}
 use mathlib.Core.Bool.{Bool, true, false, ◌||◌}
 use mathlib.Core.List.{List}
 use mathlib.Core.Logic.{◌⊎◌, inl, inr}
-use Prim.Native.Nat.{ℕ, ◌+◌, ◌<◌, ◌≤◌}
+use Prim.Native.Nat.{ℕ, ◌+◌, ◌<◌}
 use native.Mathlib.Decide.{ℕ_discrete}
 use native.Mathlib.Omega.{arith}
 use lib.ListN.{length, get_or}
 use Rattle.graph.proofs.TestLaws.{true_not_false, either_of_or, or_of_left, or_of_right}
-use Rattle.orders.specs.Arrow.{Tickets}
-use Rattle.paths.specs.Paths.{Marked, SlotReached, TellsReached}
-use Rattle.paths.specs.Entries.{entry, PathSquare, FoundFrom, FoundBelow}
+use Rattle.paths.specs.Paths.{Marked}
+use Rattle.paths.specs.Entries.{entry, FoundFrom, FoundBelow}
 
 module _ (marks : List Bool) (square : List (List Bool)) where
-  pub found_none : length marks ≡ 32 → FoundBelow marks square 0 marks
-  found_none e = record { size = e; each = λ j h. (inl, back j) }
-    where
-      back : (j : ℕ) → FoundFrom marks square 0 j → Marked marks j
-      back j (inl m) = m
-      back j (inr (i, h, m, p)) = absurd (omega arith)
-
   -- one slot more
   more_of_found : (n j : ℕ) → FoundFrom marks square n j → FoundFrom marks square (n + 1) j
   more_of_found n j (inl m) = inl m
@@ -50,15 +42,3 @@ module _ (marks : List Bool) (square : List (List Bool)) where
     where
       back : (j : ℕ) → j < 32 → FoundFrom marks square (n + 1) j → Marked found j
       back j l f = elim (found_of_more n j f) [ inl g ↦ (b.each j l).1 g | inr p ↦ absurd (true_not_false p.0 u) ]
-
-  pub reached_of_all : {found : List Bool} {n : ℕ} (slots : List Tickets) → PathSquare slots square → n ≤ 32 → 32 ≤ n
-      → FoundBelow marks square n found → TellsReached slots marks found
-  reached_of_all {n} slots paths u v b = record { size = b.size; each = λ j l. (λ e. there j l ((b.each j l).0 e), λ r. (b.each j l).1 (back j l r)) }
-    where
-      there : (j : ℕ) → j < 32 → FoundFrom marks square n j → SlotReached slots marks j
-      there j l (inl m) = inl m
-      there j l (inr (i, h, m, e)) = let g : i < 32 = omega arith in inr (i, g, m, (paths i j g l).0 e)
-
-      back : (j : ℕ) → j < 32 → SlotReached slots marks j → FoundFrom marks square n j
-      back j l (inl m) = inl m
-      back j l (inr (i, h, m, p)) = inr (i, omega arith, m, (paths i j h l).1 p)
