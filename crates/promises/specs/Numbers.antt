@@ -1,12 +1,9 @@
 -- Demand 1 by the numbers of RULES: which refusal each answer of a reader or a writer is, and that it is given exactly if its condition
 -- holds and no earlier one does. The calls on a table are in Demand1, in the same form. proofs/ProvedNumbers.antt has the proof.
 use Rattle.std.specs.Prelude.{◌≡◌, List, [], ◌∷◌, ◌↔◌, ℕ, ◌+◌, ◌<◌, length, Bool, Result, Option, Some}
-use Rattle.std.proofs.Math.Option.{some}
 use Rattle.endian.specs.Places.{Below}
 use Rattle.frames.specs.Frame.{Bad, EndsAt, body_to, frame_of}
-use Rattle.frames.specs.Answer.{frame_refusal}
-use Rattle.wire.specs.Meaning.{NoBody, body_refusal, read_refusal}
-use Rattle.sending.specs.Meaning.{write_refusal}
+use Rattle.wire.specs.Meaning.{NoBody, read_refusal}
 use Rattle.refusals.specs.declared.Refusal.{Refusal}
 use Rattle.refusals.specs.Numbers.{told_by}
 use Rattle.wire.specs.declared.reader.Request.{Request}

@@ -2,7 +2,7 @@
 -- stated for all that meets one of these holds of all that the function can give. The code has the same words behind `ensures`: the
 -- functions of `witness` call it, and are proved to give what stands here.
 use Rattle.method.specs.Calls.{CallAnswer}
-use Rattle.std.specs.Prelude.{◌≡◌, Bool, List, ℕ, Option, length, take, Result}
+use Rattle.std.specs.Prelude.{◌≡◌, Bool, List, ℕ, Option, length, Result}
 use Rattle.endian.specs.Laid.{laid, stored}
 use Rattle.decimal.specs.Written.{written_count}
 use Rattle.refusals.specs.declared.Refusal.{Refusal}
@@ -21,7 +21,6 @@ use Rattle.frames.specs.Answer.{frame_answer}
 use Rattle.sending.specs.Writing.{write_answer, written}
 use Rattle.lines.specs.Line.{line_bytes, Line.say, Line.order}
 use Rattle.lines.specs.declared.Words.{Words}
-use Rattle.method.specs.declared.Answer.{Answer}
 use Rattle.method.specs.Calls.{Call}
 use Rattle.table.specs.declared.Table.{Table}
 use Rattle.table.specs.Shut.{shut_table, answer_to, table_after}

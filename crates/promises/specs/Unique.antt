@@ -7,7 +7,6 @@ use Rattle.paths.specs.Paths.{TellsCycle, TellsReached}
 use Rattle.kept.specs.Aligned.{Aligned}
 use Rattle.refusals.specs.declared.Refusal.{Refusal}
 use Rattle.lines.specs.declared.Words.{Words}
-use Rattle.method.specs.declared.Answer.{Answer}
 use Rattle.method.specs.declared.Table as method
 use Rattle.method.specs.Calls.{Call}
 use Rattle.table.specs.declared.Table.{Table}

@@ -17,7 +17,7 @@ use Rattle.graph.specs.Order.{greedy}
 use lib.Dec.{eqb}
 use Rattle.graph.proofs.TestLaws.{true_not_false}
 use Rattle.graph.proofs.MemberLaws.{any_of_member}
-use Rattle.orders.specs.Entries.{number_of, entry_arrowb, entries_in}
+use Rattle.orders.specs.Entries.{number_of as entry_number, entry_arrowb, entries_in}
 use Rattle.orders.specs.Good.{goodb}
 use Rattle.orders.specs.Order.{in_orderb}
 use Rattle.orders.specs.Judged.{judged}
@@ -75,7 +75,7 @@ module _ (t : Table) (k : Refusal) where
   order_refuses : (flat : List ℕ) → order_line flat ≡ refused_line k → k ∈ refusals
   order_refuses flat = go (goodb flat) (acyclic entry_arrowb (entries_in flat))
     where
-      go : (g a : Bool) → cond g (cond a (Line.order (greedy entry_arrowb number_of (entries_in flat))) (refused_line Refusal.NoOrder)) (refused_line Refusal.BadRows) ≡ refused_line k → k ∈ refusals
+      go : (g a : Bool) → cond g (cond a (Line.order (greedy entry_arrowb entry_number (entries_in flat))) (refused_line Refusal.NoOrder)) (refused_line Refusal.BadRows) ≡ refused_line k → k ∈ refusals
       go false a e = behind (here (let f : Refusal.BadRows ≡ k = cc in sym f))
       go true false e = here (let f : Refusal.NoOrder ≡ k = cc in sym f)
       go true true e = never (cc)

@@ -9,8 +9,8 @@ ghost use Rattle.method.specs.Conditions.{is_closed};
 ghost use Rattle.method.specs.Calls.Call.{open_with, begin as beginCall, report_ticket, report_prepared, abort as abortCall, decide as decideCall, forget as forgetCall, sweep as sweepCall};
 ghost use Rattle.table.specs.Shut.{shut_table, answer_to, table_after, used_by};
 
-use method::{Answered, Number, Ticket, Answer};
 use arrayvec::ArrayVec;
+use method::{Answer, Answered, Number, Ticket};
 
 #[derive(Clone, Copy)]
 pub struct Table {
