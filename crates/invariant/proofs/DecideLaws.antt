@@ -108,7 +108,7 @@ module _ (t : Table) (es : List Entry) (v : Invariant t es) (n : ℕ) (nc : ¬ C
   unfolding decided committed_row slot_of
   row_committed =
       ap (λ (i : ℕ). get_or (set t.rows at (committed_row t q)) i past_end) (position_or_len-set (has_number n) t.rows at (committed_row t q) past_end
-          ((has_number_iff n (committed_row t q)).1 ((λ f. never (cc)), (found t n nu).named) ∙ sym (passes_at_first (has_number n) t.rows past_end slot)))
+      ((has_number_iff n (committed_row t q)).1 ((λ f. never (cc)), (found t n nu).named) ∙ sym (passes_at_first (has_number n) t.rows past_end slot)))
       ∙ get_or-set_same t.rows at (committed_row t q) past_end slot
 
   pub entry_committed : entry_of (row_of_number (decided t n true).table n) ≡ entry_of q

@@ -8,7 +8,7 @@ ghost use Rattle.method.specs.Conditions.{held_back};
 ghost use Rattle.method.specs.Effects.{effect, step};
 ghost use Rattle.sweeps.specs.Marks.{HeldMarks, StayMarks};
 
-use method::{Answer, Answered, Row, Table, State};
+use method::{Answer, Answered, Row, State, Table};
 use refusals::Refusal;
 use std::array;
 
