@@ -11,7 +11,7 @@ use Rattle.paths.specs.Paths.{TellsCycle}
 use Rattle.paths.proofs.SlottedLaws.{acyclic_of_answer}
 use Rattle.method.specs.declared.Table.{Table}
 use Rattle.method.specs.Records.{row_at, tickets_of}
-use Rattle.method.specs.Slots.{slot_of, row_of_number, kept}
+use Rattle.method.specs.Slots.{slot_of, kept}
 use Rattle.method.specs.Calls.Call.{decide}
 use Rattle.method.specs.Effects.{decided, effect}
 use Rattle.kept.specs.Aligned.{Aligned}

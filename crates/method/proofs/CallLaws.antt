@@ -5,7 +5,7 @@ use mathlib.Core.Bool.{Bool, true, false, false≢true}
 use mathlib.Core.List.{List, [], ◌∷◌}
 use mathlib.Core.Logic.{◌↔◌, inl, inr}
 use Prim.Native.Nat.{ℕ}
-use Rattle.std.specs.Prelude.{Option, Some, None, Result, Ok, Err}
+use Rattle.std.specs.Prelude.{Option, Some, None, Result, Err}
 use Rattle.refusals.specs.declared.Refusal.{Refusal}
 use Rattle.graph.proofs.TestLaws.{iff_not}
 use Rattle.method.specs.declared.Report.{Report}

@@ -1,5 +1,5 @@
 -- `decisions::ready` meets its contract: the gate, and behind it the one check of a decision. Assumes nothing.
-use mathlib.Core.Path.{◌≡◌, sym, ap, ◌∙◌}
+use mathlib.Core.Path.{◌≡◌, sym, ◌∙◌}
 use mathlib.Core.Bool.{Bool, true, false}
 use mathlib.Core.List.{List, [], ◌∷◌}
 use Prim.Native.Nat.{ℕ}
