@@ -26,7 +26,7 @@ use Rattle.method.specs.declared.Table.{Table}
 use Rattle.method.specs.Conditions.{is_closed}
 use Rattle.queries.specs.declared.Spoken.{Spoken}
 use Rattle.queries.specs.Queries.{order_line, proposal_line, if_open}
-use Rattle.queries.specs.Said.{no_numbers, numbers_for, spoken, spoken_of, check_words, write_said}
+use Rattle.queries.specs.Said.{no_numbers, spoken, spoken_of, check_words, write_said}
 use Rattle.method.proofs.RecordLaws.{never}
 
 -- a refusal of the check or the writer is told by a number, which only it has

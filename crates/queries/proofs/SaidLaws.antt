@@ -1,5 +1,5 @@
 -- What is said means the line that it was made of. Assumes nothing.
-use mathlib.Core.Path.{◌≡◌, refl, ap, ◌∙◌}
+use mathlib.Core.Path.{◌≡◌, refl, ap}
 use Prim.Native.Nat.{◌+◌}
 use lib.ListN.{length, drop}
 use lib.Seq.{take_at}

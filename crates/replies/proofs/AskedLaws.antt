@@ -1,7 +1,7 @@
 -- What a request that was read off a body says of it: what the desk owes it, and where its list stands. Assumes nothing.
 use mathlib.Core.Path.{◌≡◌, refl, sym, ap, ◌∙◌}
 use mathlib.Core.List.{List}
-use Rattle.std.proofs.Common.{Option, Some, None, Result, Ok, Err}
+use Rattle.std.proofs.Common.{Some, Result, Ok, Err}
 use Rattle.refusals.specs.declared.Refusal.{Refusal}
 use Prim.Native.Nat.{ℕ, ◌<◌, ◌≤◌}
 use native.Mathlib.Omega.{arith}
@@ -20,7 +20,7 @@ use Rattle.wire.specs.declared.reader.Request.TheVariants.{Opening, Beginning, T
 use Rattle.wire.specs.Message.{Message, opening, beginning, ticketing, preparing, aborting, deciding, forgetting, sweeping, proposing, ordering}
 use Rattle.kinds.specs.Kinds.{row_of}
 use Rattle.wire.specs.Body.{message_at, message_of}
-use Rattle.wire.specs.Answers.{request_of, message_with, body_answer}
+use Rattle.wire.specs.Answers.{message_with, body_answer}
 use Rattle.kinds.proofs.CaseLaws.{by_kind}
 use Rattle.kinds.proofs.KindsLaws.{length_of_entries, length_le_of_entries}
 use Rattle.wire.proofs.BodyLaws.{entries_of_message}

@@ -1,5 +1,5 @@
 -- What a report finds: the slot of the number and the stage that the site comes to, and then the row as it will be.
-use Rattle.std.specs.Prelude.{Bool, List, [], ◌∷◌, ◌++◌, ℕ, Result}
+use Rattle.std.specs.Prelude.{Bool, List, [], ◌∷◌, ℕ, Result}
 use Rattle.refusals.specs.declared.Refusal.{Refusal}
 use Rattle.method.specs.declared.Stage.{Stage}
 use Rattle.method.specs.declared.Report.{Report}

@@ -14,7 +14,7 @@ use Rattle.graph.specs.Lists.{◌∈◌}
 use Rattle.orders.specs.Arrow.{ticket_at}
 use Rattle.orders.specs.Entries.{Entry}
 use Rattle.method.specs.Calls.{CallAnswer}
-use Rattle.std.specs.Prelude.{Ok, Err}
+use Rattle.std.specs.Prelude.{Ok}
 use Rattle.method.specs.declared.Ticket.{Ticket}
 use Rattle.method.specs.declared.Row.{Row}
 use Rattle.method.specs.declared.Table.{Table}

@@ -8,7 +8,6 @@ use Prim.Native.Nat.{ℕ}
 use Rattle.method.specs.Calls.{CallAnswer}
 use Rattle.method.specs.declared.Report.{Report}
 use Rattle.method.specs.declared.Table.{Table}
-use Rattle.method.specs.declared.Answer.{Answer}
 use Rattle.method.specs.Calls.{Call}
 use Rattle.method.specs.Calls.Call.{open_with, begin, report_ticket, report_prepared, abort, decide, forget, sweep}
 use Rattle.method.proofs.RecordLaws.{never}

@@ -24,7 +24,7 @@ use Rattle.graph.proofs.MapLaws.{mapped_cycle_iff}
 use Rattle.graph.proofs.ReachedLaws.{reached_of_next}
 use Rattle.orders.specs.Entries.{Entry, EntryArrow}
 use Rattle.orders.proofs.OrderLaws.{order_exists_iff_no_cycle}
-use Rattle.std.specs.Prelude.{Ok, Err}
+use Rattle.std.specs.Prelude.{Ok}
 use Rattle.method.specs.declared.Row.{Row}
 use Rattle.method.specs.declared.Table.{Table}
 use Rattle.method.specs.declared.Answer.{Answer}

@@ -8,7 +8,7 @@ use native.Mathlib.Decide.{ℕ_discrete}
 use Rattle.graph.proofs.TestLaws.{true_or_false, true_not_false}
 use Rattle.orders.specs.Entries.{Entry}
 use Rattle.method.specs.Calls.{CallAnswer}
-use Rattle.std.specs.Prelude.{Ok, Err}
+use Rattle.std.specs.Prelude.{Ok}
 use Rattle.method.specs.declared.Number.{Number}
 use Rattle.method.specs.declared.Row.{Row}
 use Rattle.method.specs.declared.Table.{Table}

@@ -12,7 +12,6 @@ use Rattle.orders.specs.Entries.{Entry}
 use Rattle.method.specs.Calls.{CallAnswer}
 use Rattle.method.specs.declared.Report.{Report}
 use Rattle.method.specs.declared.Table.{Table}
-use Rattle.method.specs.declared.Answer.{Answer}
 use Rattle.method.specs.Slots.{slot_of, row_of_number, entry_of}
 use Rattle.method.specs.Calls.{Call}
 use Rattle.method.specs.Calls.Call.{decide}

@@ -9,7 +9,7 @@ use Rattle.graph.proofs.MemberLaws.{member_or_not}
 use Rattle.sites.specs.Sites.{sites_of}
 use Rattle.sites.proofs.SitesLaws.{rising_sites, lt_of_member}
 use Rattle.method.specs.Calls.{CallAnswer}
-use Rattle.std.specs.Prelude.{Ok, Err}
+use Rattle.std.specs.Prelude.{Ok}
 use Rattle.method.specs.declared.Report.{Report}
 use Rattle.method.specs.declared.Part.{Part}
 use Rattle.method.specs.declared.Row.{Row}

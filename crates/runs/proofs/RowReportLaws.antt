@@ -7,7 +7,7 @@ use native.Mathlib.Decide.{ℕ_discrete}
 use lib.ListN.{length}
 use Rattle.graph.proofs.TestLaws.{true_not_false, or_of_left, or_of_right, either_of_or}
 use Rattle.method.specs.Calls.{CallAnswer}
-use Rattle.std.specs.Prelude.{Some, unwrap_or, Ok, Err}
+use Rattle.std.specs.Prelude.{Some, unwrap_or, Ok}
 use Rattle.method.specs.declared.Ticket.{Ticket}
 use Rattle.method.specs.declared.Stage.{Stage}
 use Rattle.method.specs.declared.Report.{Report}

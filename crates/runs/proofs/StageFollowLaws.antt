@@ -12,7 +12,6 @@ use Rattle.method.specs.declared.Stage.{Stage}
 use Rattle.method.specs.declared.Report.{Report}
 use Rattle.method.specs.declared.Row.{Row}
 use Rattle.method.specs.declared.Table.{Table}
-use Rattle.method.specs.declared.Answer.{Answer}
 use Rattle.method.specs.Records.{row_at, part_at}
 use Rattle.method.specs.Seen.{IsFree, num, tick}
 use Rattle.method.specs.Stages.{given}

@@ -7,7 +7,6 @@ use Rattle.method.specs.Calls.{CallAnswer}
 use Rattle.method.specs.declared.Report.{Report}
 use Rattle.method.specs.declared.Row.{Row}
 use Rattle.method.specs.declared.Table.{Table}
-use Rattle.method.specs.declared.Answer.{Answer}
 use Rattle.method.specs.Records.{no_part, row_at, part_at, high_at}
 use Rattle.method.specs.Stages.{given}
 use Rattle.method.specs.Calls.{Call}

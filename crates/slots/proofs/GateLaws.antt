@@ -3,7 +3,7 @@ use mathlib.Core.Path.{◌≡◌, refl, sym, ◌∙◌}
 use mathlib.Core.Bool.{Bool, true, false, cond, not}
 use mathlib.Core.List.{List, [], ◌∷◌, ◌++◌}
 use Prim.Native.Nat.{ℕ}
-use Rattle.std.specs.Prelude.{Some, None, ok_or, position, Result, Ok, Err}
+use Rattle.std.specs.Prelude.{Some, None, ok_or, position, Ok, Err}
 use Rattle.std.specs.List.{position_or_len}
 use Rattle.refusals.specs.declared.Refusal.{Refusal}
 use Rattle.graph.specs.Lists.{any_of}

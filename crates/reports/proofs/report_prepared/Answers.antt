@@ -1,5 +1,5 @@
 -- `reports::report_prepared` meets its contract. Assumes nothing.
-use mathlib.Core.Path.{◌≡◌, sym, ap, ◌∙◌}
+use mathlib.Core.Path.{sym, ap, ◌∙◌}
 use Rattle.std.specs.Prelude.{Ok}
 use Rattle.method.specs.declared.Answer.{Answer}
 use Rattle.method.specs.Records.{with_row}

@@ -3,7 +3,6 @@ use mathlib.Core.Path.{◌≡◌, sym, ap, ◌∙◌}
 use mathlib.Core.Bool.{Bool, true, false}
 use mathlib.Core.List.{List, [], ◌∷◌}
 use borrow.Author.Rules.{rules}
-use borrow.Author.Tests.{le-leb}
 use Rattle.std.specs.Prelude.{Err}
 use Rattle.refusals.specs.declared.Refusal.{Refusal}
 use Rattle.method.specs.declared.Report.{Report}
