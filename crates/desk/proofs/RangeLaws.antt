@@ -9,8 +9,6 @@ use denote.Enum.Declared.{row}
 use denote.Enum.Laws.{val}
 use Rattle.endian.specs.Places.{Below}
 use Rattle.endian.proofs.BelowLaws.{below_take}
-use Rattle.refusals.specs.Numbers.{number_of}
-use Rattle.refusals.proofs.NumberLaws.{number_small}
 use Rattle.lines.specs.declared.Words.{Words}
 use Rattle.lines.specs.Line.{Line, InRange, numbers_of}
 use Rattle.queries.specs.declared.Said.{Said}
@@ -37,7 +35,7 @@ module _ (l : List ℕ) (b : Below (2 ^ 32) l) (k : length l ≤ 32) where
   whole (Said.Words (Words.Swept n)) g = one _ n refl g.1.1.1.1.0.1.1.1.1.0.1
   whole (Said.Words Words.Good) g = none _ refl
   whole (Said.Words Words.Bad) g = none _ refl
-  whole (Said.Words (Words.Refused r)) g = one _ (number_of r) refl (omega (arith, number_small r))
+  whole (Said.Words (Words.Refused n)) g = one _ n refl g.1.1.1.1.0.1.1.1.1.0.1
   whole (Said.Order n) g = record { numbers = below_take (2 ^ 32) n l b; few = simp length-take (omega arith) }
 
   -- the same of the case that the code found

@@ -3,3 +3,4 @@ pub mod LineLaws
 pub mod ReadingLaws
 pub mod WritingLaws
 pub mod TrialLaws
+pub mod RefusedLaws

@@ -8,7 +8,6 @@ use native.Mathlib.Omega.{arith}
 use lib.Dec.{eqb}
 use lib.ListN.{length, get_or, length-append}
 use Rattle.decimal.specs.Decimal.{decimal}
-use Rattle.refusals.proofs.NumberLaws.{refusal_at, refusal_of_number}
 use Rattle.text.specs.Text.{spaced}
 use Rattle.lines.specs.declared.Words.{Words}
 use Rattle.lines.specs.Line.{Line, Line.say, Line.order, word_of, numbers_of, line_bytes}
@@ -54,7 +53,7 @@ line_from w l =
     (cond (eqb k 29559) (say (Words.Swept n))
     (cond (eqb k 26479) (say Words.Good)
     (cond (eqb k 25185) (say Words.Bad)
-    (cond (eqb k 28530) (order l) (say (Words.Refused (refusal_at n))))))))))
+    (cond (eqb k 28530) (order l) (say (Words.Refused n)))))))))
 
 line_from_lem : (x : Line) → line_from (word_of x) (numbers_of x) ≡ x
 unfolding line_from
@@ -66,7 +65,7 @@ line_from_lem (say (Words.Swept c)) = refl
 line_from_lem (say Words.Good) = refl
 line_from_lem (say Words.Bad) = refl
 line_from_lem (order l) = refl
-line_from_lem (say (Words.Refused r)) = ap (λ q. say (Words.Refused q)) (refusal_of_number r)
+line_from_lem (say (Words.Refused r)) = refl
 
 -- with anything behind: the first line is determined, and so is the rest
 pub line_and_rest : (x y : Line) (r s : List ℕ) → line_bytes x ++ r ≡ line_bytes y ++ s → (x ≡ y) × (r ≡ s)

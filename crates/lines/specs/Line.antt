@@ -12,7 +12,7 @@ pub data Line : Type 0 where
   -- the numbers of the kept rows in their order
   order : List ℕ → Line
 
--- those that statements name
+-- those that statements name; a refusal is told by its number
 abbrev pub ok_line : Line
 ok_line = say Words.Ok
 
@@ -23,7 +23,7 @@ abbrev pub bad_line : Line
 bad_line = say Words.Bad
 
 abbrev pub refused_line : Refusal → Line
-refused_line r = say (Words.Refused r)
+refused_line r = say (Words.Refused (number_of r))
 
 -- the word that an answer begins with, and the number behind it
 abbrev pub word_for : Words → List ℕ
@@ -44,7 +44,7 @@ number_for (Words.Cycle n) = n ∷ []
 number_for (Words.Swept c) = c ∷ []
 number_for Words.Good = []
 number_for Words.Bad = []
-number_for (Words.Refused r) = number_of r ∷ []
+number_for (Words.Refused r) = r ∷ []
 
 -- the same of a line
 abbrev pub word_of : Line → List ℕ

@@ -1,6 +1,5 @@
 -- Worked lines, with numbers just inside and just outside a digit more; the last is as long as a line can be. proofs/TrialLaws.antt computes them.
 use Rattle.std.specs.Prelude.{List, [], ◌∷◌, ℕ, replicate}
-use Rattle.refusals.specs.declared.Refusal.{Refusal}
 use Rattle.lines.specs.declared.Words.{Words}
 use Rattle.lines.specs.Line.{Line, Line.say, Line.order}
 
@@ -22,7 +21,7 @@ trials =
     ∷ is (say Words.Bad) (98 ∷ 97 ∷ 100 ∷ 10 ∷ [])
     ∷ is (order []) (111 ∷ 114 ∷ 100 ∷ 101 ∷ 114 ∷ 10 ∷ [])
     ∷ is (order (2 ∷ 100 ∷ [])) (111 ∷ 114 ∷ 100 ∷ 101 ∷ 114 ∷ 32 ∷ 50 ∷ 32 ∷ 49 ∷ 48 ∷ 48 ∷ 10 ∷ [])
-    ∷ is (say (Words.Refused Refusal.NoRoom)) (114 ∷ 101 ∷ 102 ∷ 117 ∷ 115 ∷ 101 ∷ 100 ∷ 32 ∷ 49 ∷ 52 ∷ 10 ∷ [])
+    ∷ is (say (Words.Refused 14)) (114 ∷ 101 ∷ 102 ∷ 117 ∷ 115 ∷ 101 ∷ 100 ∷ 32 ∷ 49 ∷ 52 ∷ 10 ∷ [])
     ∷ is (say (Words.Begin 4294967295)) (98 ∷ 101 ∷ 103 ∷ 105 ∷ 110 ∷ 32 ∷ 52 ∷ 50 ∷ 57 ∷ 52 ∷ 57 ∷ 54 ∷ 55 ∷ 50 ∷ 57 ∷ 53 ∷ 10 ∷ [])
     ∷ []
 

@@ -4,6 +4,8 @@
 ghost use Rattle.std.specs.Prelude.{◌≡◌};
 ghost use Rattle.endian.specs.Laid.{stored};
 ghost use Rattle.decimal.specs.Written.{written_count};
+ghost use Rattle.refusals.specs.Numbers.{number_of};
+ghost use Rattle.lines.specs.declared.Words.{Words};
 ghost use Rattle.lines.specs.Line.{line_bytes, ok_line, Line.say, Line.order};
 
 use refusals::Refusal;
@@ -21,8 +23,16 @@ pub enum Words {
     Swept(u32),
     Good,
     Bad,
-    // told by its number
-    Refused(Refusal),
+    // the refusal's number: a line may tell any, so that what is said of lines holds of each
+    Refused(u32),
+}
+
+impl From<Refusal> for Words {
+    ghost from_gives = { λ r w. w ≡ Words.Refused (number_of r) };
+
+    fn from(r: Refusal) -> Words {
+        Words::Refused(u32::from(r))
+    }
 }
 
 // Most answers are this one, so its three bytes are stored at once.
@@ -53,7 +63,7 @@ pub fn write_line(words: Words, out: &mut [u8], place: usize) -> Option<usize>
         Words::Swept(c) => put_text(b"swept", &[c], out, place),
         Words::Good => put_text(b"good", &[], out, place),
         Words::Bad => put_text(b"bad", &[], out, place),
-        Words::Refused(r) => put_text(b"refused", &[u32::from(r)], out, place),
+        Words::Refused(r) => put_text(b"refused", &[r], out, place),
     }
 }
 

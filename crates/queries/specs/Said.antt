@@ -2,6 +2,7 @@
 use Rattle.std.specs.Prelude.{Bool, true, false, Result, Ok, Err, List, ℕ, length, replicate, take}
 use Rattle.endian.specs.Laid.{laid}
 use Rattle.refusals.specs.declared.Refusal.{Refusal}
+use Rattle.refusals.specs.Numbers.{number_of}
 use Rattle.lines.specs.declared.Words.{Words}
 use Rattle.lines.specs.Line.{Line, Line.say, Line.order}
 use Rattle.queries.specs.declared.Said.{Said}
@@ -34,8 +35,8 @@ spoken_of x = spoken (said_of x) (numbers_for x)
 abbrev pub check_words : Result Bool Refusal → Words
 check_words (Ok true) = Words.Good
 check_words (Ok false) = Words.Bad
-check_words (Err r) = Words.Refused r
+check_words (Err r) = Words.Refused (number_of r)
 
 abbrev pub write_said : Result ℕ Refusal → Said
 write_said (Ok n) = Said.Order n
-write_said (Err r) = Said.Words (Words.Refused r)
+write_said (Err r) = Said.Words (Words.Refused (number_of r))

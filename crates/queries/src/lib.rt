@@ -45,7 +45,7 @@ fn if_open(t: &Table, s: Spoken) -> Spoken
     ensures answer { result ≡ cond (is_closed t.now.held) (spoken_of (refused_line Refusal.NotOpen)) s }
 {
     if table::is_closed(t) {
-        return speak(Words::Refused(Refusal::NotOpen));
+        return speak(Words::from(Refusal::NotOpen));
     }
     s
 }
@@ -57,7 +57,7 @@ fn judged(a: Result<bool, Refusal>) -> Words
     match a {
         Ok(true) => Words::Good,
         Ok(false) => Words::Bad,
-        Err(r) => Words::Refused(r),
+        Err(r) => Words::from(r),
     }
 }
 
@@ -75,7 +75,7 @@ fn written(a: Result<usize, Refusal>) -> Said
 {
     match a {
         Ok(n) => Said::Order(n),
-        Err(r) => Said::Words(Words::Refused(r)),
+        Err(r) => Said::Words(Words::from(r)),
     }
 }
 

@@ -25,6 +25,7 @@ use Rattle.orders.proofs.OrderLaws.{in_orderb→in_order, in_order→in_orderb, 
 use Rattle.orders.proofs.WriteLaws.{smallest_first_of_greedy}
 use Rattle.wire.specs.Message.{Message, proposing, ordering}
 use Rattle.wire.specs.Body.{message_of}
+use Rattle.lines.proofs.RefusedLaws.{same_refusal}
 use Rattle.lines.specs.Line.{Line, bad_line, good_line, refused_line}
 use Rattle.method.specs.declared.Table.{Table}
 use Rattle.method.specs.Slots.{kept_flat}
@@ -61,7 +62,7 @@ module _ (t : Table) (g : GoodRows (kept_flat t)) (x : (o : List ℕ) × InOrder
     open_listed y n = go (is_closed t)
       where
         go : (b : Bool) → cond b (refused_line Refusal.NotOpen) y ≡ refused_line k → k ∈ call_refusals
-        go true e = here (let f : Refusal.NotOpen ≡ k = cc in sym f)
+        go true e = here (let f : Refusal.NotOpen ≡ k = same_refusal Refusal.NotOpen k e in sym f)
         go false e = absurd (n e)
 
     not_refused : (b : Bool) → ¬ (cond b good_line bad_line ≡ refused_line k)
@@ -78,7 +79,7 @@ module _ (t : Table) (g : GoodRows (kept_flat t)) (x : (o : List ℕ) × InOrder
     body_listed b = go (message_of b)
       where
         go : (o : Option Message) → (desk_read t o).1 ≡ refused_line k → k ∈ Refusal.BadBody ∷ call_refusals
-        go None e = here (let f : Refusal.BadBody ≡ k = cc in sym f)
+        go None e = here (let f : Refusal.BadBody ≡ k = same_refusal Refusal.BadBody k e in sym f)
         go (Some m) e = behind (reply_listed (asks_for m) e)
 
   -- what an open table answers

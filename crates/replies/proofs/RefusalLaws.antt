@@ -25,6 +25,7 @@ use Rattle.wire.specs.Message.{Message, InRange, body_of, opening, beginning, ti
 use Rattle.wire.specs.Body.{message_of}
 use Rattle.wire.specs.Meaning.{NoBody}
 use Rattle.wire.proofs.BodyLaws.{message_of_body, body_of_message, no_body_of_none}
+use Rattle.lines.proofs.RefusedLaws.{same_refusal}
 use Rattle.lines.specs.Line.{Line, bad_line, good_line, refused_line}
 use Rattle.method.specs.declared.Table.{Table}
 use Rattle.method.specs.declared.Answer.{Answer}
@@ -46,7 +47,7 @@ refused_of_line (Ok (Answer.Begun n)) k e = never (cc)
 refused_of_line (Ok (Answer.Commit n)) k e = never (cc)
 refused_of_line (Ok (Answer.Cycle n)) k e = never (cc)
 refused_of_line (Ok (Answer.Swept c)) k e = never (cc)
-refused_of_line (Err r) k e = let h : r ≡ k = cc in ap {B = CallAnswer} Err h
+refused_of_line (Err r) k e = let h : r ≡ k = same_refusal r k e in ap {B = CallAnswer} Err h
 
 -- beside a call's refusals there are 12 and 13, of a bad table of kept rows
 abbrev refusals : List Refusal
@@ -61,14 +62,14 @@ module _ (t : Table) (k : Refusal) where
   open_refuses x h = go (is_closed t)
     where
       go : (b : Bool) → Refuses (t, cond b (refused_line Refusal.NotOpen) x)
-      go true e = (behind (behind (here (let f : Refusal.NotOpen ≡ k = cc in sym f))), refl)
+      go true e = (behind (behind (here (let f : Refusal.NotOpen ≡ k = same_refusal Refusal.NotOpen k e in sym f))), refl)
       go false e = (h e, refl)
 
   proposal_refuses : (flat ns : List ℕ) → proposal_line flat ns ≡ refused_line k → k ∈ refusals
   proposal_refuses flat ns = go (goodb flat) (in_orderb (entries_in flat) ns)
     where
       go : (g o : Bool) → judged (refused_line Refusal.BadRows) good_line bad_line g o ≡ refused_line k → k ∈ refusals
-      go false o e = behind (here (let f : Refusal.BadRows ≡ k = cc in sym f))
+      go false o e = behind (here (let f : Refusal.BadRows ≡ k = same_refusal Refusal.BadRows k e in sym f))
       go true true e = never (cc)
       go true false e = never (cc)
 
@@ -76,8 +77,8 @@ module _ (t : Table) (k : Refusal) where
   order_refuses flat = go (goodb flat) (acyclic entry_arrowb (entries_in flat))
     where
       go : (g a : Bool) → cond g (cond a (Line.order (greedy entry_arrowb entry_number (entries_in flat))) (refused_line Refusal.NoOrder)) (refused_line Refusal.BadRows) ≡ refused_line k → k ∈ refusals
-      go false a e = behind (here (let f : Refusal.BadRows ≡ k = cc in sym f))
-      go true false e = here (let f : Refusal.NoOrder ≡ k = cc in sym f)
+      go false a e = behind (here (let f : Refusal.BadRows ≡ k = same_refusal Refusal.BadRows k e in sym f))
+      go true false e = here (let f : Refusal.NoOrder ≡ k = same_refusal Refusal.NoOrder k e in sym f)
       go true true e = never (cc)
 
   reply_refuses : (a : Asks) → Refuses (reply_to t a)

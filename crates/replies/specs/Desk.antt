@@ -3,6 +3,7 @@
 use Rattle.std.specs.Prelude.{Ok, Err, List, ℕ}
 use Rattle.std.specs.Prelude.{Option, Some, None}
 use Rattle.refusals.specs.declared.Refusal.{Refusal}
+use Rattle.refusals.specs.Numbers.{number_of}
 use Rattle.lines.specs.declared.Words.{Words}
 use Rattle.lines.specs.Line.{Line, Line.say, refused_line}
 use Rattle.wire.specs.Message.{Message, opening, beginning, ticketing, preparing, aborting, deciding, forgetting, sweeping, proposing, ordering}
@@ -22,7 +23,7 @@ answer_words (Ok (Answer.Begun n)) = Words.Begin n.0
 answer_words (Ok (Answer.Commit n)) = Words.Commit n.0
 answer_words (Ok (Answer.Cycle n)) = Words.Cycle n.0
 answer_words (Ok (Answer.Swept c)) = Words.Swept c
-answer_words (Err r) = Words.Refused r
+answer_words (Err r) = Words.Refused (number_of r)
 
 abbrev pub answer_line : CallAnswer → Line
 answer_line a = say (answer_words a)

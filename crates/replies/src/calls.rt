@@ -27,7 +27,7 @@ fn words_of(a: Result<Answer, Refusal>) -> Words
         Ok(Answer::Commit(n)) => Words::Commit(n.0),
         Ok(Answer::Cycle(n)) => Words::Cycle(n.0),
         Ok(Answer::Swept(c)) => Words::Swept(c),
-        Err(r) => Words::Refused(r),
+        Err(r) => Words::from(r),
     }
 }
 

@@ -28,7 +28,7 @@ fn last_line(table: Table, used: usize, out: &mut [u8], written: usize) -> Turn
     ensures answer { result ≡ turn_of table used (written + length eleven) true }
     ensures buffer { out.new ≡ laid out.old written eleven }
 {
-    let n = lines::write_line(Words::Refused(Refusal::BadFrame), out, written).unwrap();
+    let n = lines::write_line(Words::from(Refusal::BadFrame), out, written).unwrap();
     Turn {
         table,
         used,
