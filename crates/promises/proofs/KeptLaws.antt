@@ -14,6 +14,7 @@ use Rattle.std.proofs.Common.{Option, Some, None}
 use Rattle.wire.specs.Message.{Message}
 use Rattle.wire.specs.Body.{message_of}
 use Rattle.frames.specs.Stream.{Stream, ended, cut_off, framed}
+use Rattle.lines.proofs.RefusedLaws.{same_refusal}
 use Rattle.lines.specs.Line.{refused_line}
 use Rattle.method.specs.Slots.{kept_entries, kept_flat}
 use Rattle.method.specs.Calls.{call_refusals}
@@ -55,9 +56,9 @@ module _ (r : Run) where
 pub never_in_lines : (s : Stream) (r : Run) (k : Refusal) → refused_line k ∈ lines_of (after r) s → k ∈ Refusal.BadFrame ∷ Refusal.BadBody ∷ call_refusals
 unfolding lines_of
 never_in_lines ended r k i = absurd (Memᴰ.not-nil i)
-never_in_lines (cut_off l) r k (here e) = here (let f : k ≡ Refusal.BadFrame = cc in f)
+never_in_lines (cut_off l) r k (here e) = here (same_refusal k Refusal.BadFrame e)
 never_in_lines (cut_off l) r k (there i) = absurd (Memᴰ.not-nil i)
-never_in_lines (Stream.refused l) r k (here e) = here (let f : k ≡ Refusal.BadFrame = cc in f)
+never_in_lines (Stream.refused l) r k (here e) = here (same_refusal k Refusal.BadFrame e)
 never_in_lines (Stream.refused l) r k (there i) = absurd (Memᴰ.not-nil i)
 never_in_lines (framed b s) r k (here e) = there (body_listed (after r) (run_good r) (flat_ordered r) k b (sym e))
 never_in_lines (framed b s) r k (there i) = let (q, e) = desk_run r b in never_in_lines s q k (rw e at i)
