@@ -14,6 +14,8 @@ use Rattle.graph.proofs.CheckLaws.{may_stand→stands, stands→may_stand}
 use Rattle.orders.specs.Entries.{Entry, number_of, entry_arrowb, entry_at, entries_in}
 use Rattle.orders.specs.Order.{in_orderb}
 use Rattle.orders.proofs.EntriesLaws.{length_entries_in, row_of_member}
+use Rattle.std.specs.Prelude.{Option, Some, None}
+use Rattle.checker.specs.Places.{RowOf, row_stands}
 use Rattle.arrows.specs.Placed.{Marked, may_stand}
 use Rattle.arrows.proofs.PlacedLaws.{row_in, same_place, ready_of_may, may_of_ready}
 
@@ -46,6 +48,11 @@ module _ (flat : List ℕ) (w : ℕ) (before : List ℕ) (marked : Marked flat w
           let s = may_stand→stands entry_arrowb number_of (entries_in flat) before n t in
           let (j, l, p) = row_of_member flat s.row s.member in
           none j l (rw p s.named)
+
+  -- where it may stand is told by what was found of it
+  pub stand_of_found : (found : Option ℕ) → RowOf flat n found → test ≡ row_stands flat w found
+  stand_of_found (Some i) (h, e) = stand_of_row i h e
+  stand_of_found None none = stand_of_none none
 
 module _ (rows : List Entry) where
   -- the places from p on

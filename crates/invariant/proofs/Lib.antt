@@ -15,3 +15,4 @@ pub mod SweepLaws
 pub mod InvariantLaws
 pub mod KeptLaws
 pub mod StandingLaws
+pub mod LowestLaws

@@ -1,13 +1,13 @@
 -- One row more: what it adds to the packed table. Assumes nothing.
 use mathlib.Core.Path.{◌≡◌, refl, sym, ◌∙◌, ap}
-use mathlib.Core.Bool.{true, false}
+use mathlib.Core.Bool.{Bool, true, false, cond}
 use mathlib.Core.List.{List, [], ◌∷◌, ◌++◌, map, append-nil, append_assoc}
 use Prim.Native.Nat.{ℕ, ◌+◌, ◌<◌, ◌≤◌}
 use native.Mathlib.Omega.{arith}
 use lib.ListN.{length, get_or, take}
 use lib.Seq.{length-take-le}
 use Rattle.std.proofs.lemmas.List.{map_push}
-use Rattle.std.proofs.lemmas.List.Elements.{filter_more}
+use Rattle.std.proofs.lemmas.List.Elements.{filter_more, filter-append}
 use Rattle.std.proofs.lemmas.List.Filters.{length-filter_more}
 use Rattle.graph.specs.Lists.{keep}
 use Rattle.graph.proofs.MemberLaws.{length_keep_le}
@@ -26,6 +26,15 @@ unfolding flat_of
 flat_of_push [] e = ap (λ (l : List ℕ). e.number ∷ l) (append-nil e.tickets)
 flat_of_push (q ∷ es) e =
     ap (λ (l : List ℕ). q.number ∷ l) (ap (λ (l : List ℕ). q.tickets ++ l) (flat_of_push es e) ∙ sym (append_assoc q.tickets (flat_of es) (e.number ∷ e.tickets)))
+
+-- one row more: its nine entries come behind the others if it is kept, and else nothing does
+pub packed_grow : (rs : List Row) (r : Row) → flat (rs ++ (r ∷ [])) ≡ flat rs ++ cond (committed r) (r.number.0 ∷ tickets_of r) []
+unfolding entry_of
+packed_grow rs r = ap (λ (l : List Row). flat_of (map entry_of l)) (filter-append committed rs (r ∷ [])) ∙ go (committed r)
+  where
+    go : (b : Bool) → flat_of (map entry_of (keep committed rs ++ cond b (r ∷ []) [])) ≡ flat rs ++ cond b (r.number.0 ∷ tickets_of r) []
+    go true = ap flat_of (map_push entry_of (keep committed rs) r) ∙ flat_of_push (map entry_of (keep committed rs)) (entry_of r)
+    go false = ap (λ (l : List Row). flat_of (map entry_of l)) (append-nil (keep committed rs)) ∙ sym (append-nil (flat rs))
 
 module _ (rows : List Row) (i : ℕ) (h : i < length rows) where
   -- a committed row's nine entries come behind those of the rows in front of it; another row adds nothing
