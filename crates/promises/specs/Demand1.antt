@@ -16,7 +16,8 @@ use Rattle.frames.specs.Stream.{stream_of}
 use Rattle.wire.specs.Meaning.{NoBody, BodyMeans, ReadMeans}
 use Rattle.frames.specs.Answer.{FrameMeans}
 use Rattle.sending.specs.Meaning.{WriteMeans}
-use Rattle.lines.specs.Line.{Line, line_bytes, refused_line}
+use Rattle.lines.specs.declared.Words.{Words}
+use Rattle.lines.specs.Line.{Line, Line.say, line_bytes, refused_line}
 use Rattle.lines.specs.Reading.{OneLine, output_bytes}
 use Rattle.method.specs.declared.Answer.{Answer}
 use Rattle.method.specs.declared.Table as method
@@ -68,7 +69,7 @@ pub record RefusedKeeps : Type 0 where
   pub roomless : (t : Table) (b out : List ℕ) (place : ℕ) (r : Served) (after : List ℕ) → ServeGives t b out place r after → length out < place + 358
       → (r.table ≡ t) × (r.count ≡ None) × (after ≡ out)
   -- and a message of the service that is answered with a refusal leaves its table
-  pub served : (t : method.Table) (b : List ℕ) (k : Refusal) → (desk_body t b).1 ≡ refused_line k → (desk_body t b).0 ≡ t
+  pub served : (t : method.Table) (b : List ℕ) (k : ℕ) → (desk_body t b).1 ≡ say (Words.Refused k) → (desk_body t b).0 ≡ t
 
 -- each refusal is given exactly when it should be. Those of the orders (13, 14, 12) and of the C call are in Demand3.
 pub record RefusedExactly : Type 0 where

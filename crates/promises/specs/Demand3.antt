@@ -1,6 +1,6 @@
 -- Demand 3: an order is accepted exactly by the rule, our writer gives one whenever one exists and there is room, and for every sequence
 -- of calls an order exists for all committed since the opening, forgotten ones too. proofs/Proved3.antt has a proof of each.
-use Rattle.std.specs.Prelude.{◌≡◌, List, ◌∷◌, ◌++◌, ◌↔◌, ℕ, ◌+◌, ◌<◌, length, take, drop, Bool, true, false, Result, Ok, Err}
+use Rattle.std.specs.Prelude.{◌≡◌, List, ◌∷◌, map, ◌++◌, ◌↔◌, ℕ, ◌+◌, ◌<◌, length, take, drop, Bool, true, false, Result, Ok, Err}
 use Rattle.graph.specs.Lists.{◌∈◌}
 use Rattle.graph.specs.Smallest.{SmallestFirst}
 use Rattle.orders.specs.Arrow.{ticket_at}
@@ -10,6 +10,7 @@ use Rattle.orders.specs.Order.{InOrder}
 use Rattle.orders.specs.Write.{Room}
 use Rattle.orders.specs.CCall.{GoodBytes, OrderBytes}
 use Rattle.refusals.specs.declared.Refusal.{Refusal}
+use Rattle.refusals.specs.Numbers.{number_of as refusal_number}
 use Rattle.method.specs.Records.{closed}
 use Rattle.method.specs.Slots.{kept_entries, kept_flat}
 use Rattle.method.specs.Conditions.{Closed}
@@ -18,7 +19,8 @@ use Rattle.runs.specs.Run.{Run, after, Happened, TakesTicket, Commits}
 use Rattle.runs.specs.History.{history}
 use Rattle.wire.specs.Message.{proposing, ordering}
 use Rattle.frames.specs.Stream.{stream_of}
-use Rattle.lines.specs.Line.{Line, bad_line, good_line, refused_line}
+use Rattle.lines.specs.declared.Words.{Words}
+use Rattle.lines.specs.Line.{Line, Line.say, bad_line, good_line}
 use Rattle.replies.specs.Desk.{desk, desk_body}
 use Rattle.turns.specs.Lines.{lines_of}
 use Rattle.promises.specs.Stated.{CheckGives, CCheckGives, WriteGives}
@@ -78,7 +80,7 @@ pub record KeptOf (r : Run) : Type 0 where
   pub good : GoodRows (kept_flat (after r))
   pub ordered : (o : List ℕ) × InOrder (kept_entries (after r)) o
   -- so a message is never answered 12 or 13, nor 11 or 14, whatever it is: only 10 and what calls are refused with
-  pub never : (b : List ℕ) (k : Refusal) → (desk_body (after r) b).1 ≡ refused_line k → k ∈ Refusal.BadBody ∷ call_refusals
+  pub never : (b : List ℕ) (k : ℕ) → (desk_body (after r) b).1 ≡ say (Words.Refused k) → k ∈ map refusal_number (Refusal.BadBody ∷ call_refusals)
   -- an order is answered with an order, the smallest number first
   pub order : ¬ Closed (after r)
       → (o : List ℕ) × (desk (after r) ordering ≡ (after r, Line.order o)) × InOrder (kept_entries (after r)) o × SmallestFirst EntryArrow number_of (kept_entries (after r)) o
@@ -91,4 +93,4 @@ KeptRows = (r : Run) → KeptOf r
 
 -- no line of the service is 12, 13 or 14, whatever bytes it reads: only 11, 10 and what calls are refused with
 abbrev pub NeverInStream : Type 0
-NeverInStream = (l : List ℕ) (k : Refusal) → refused_line k ∈ lines_of closed (stream_of l) → k ∈ Refusal.BadFrame ∷ Refusal.BadBody ∷ call_refusals
+NeverInStream = (l : List ℕ) (k : ℕ) → say (Words.Refused k) ∈ lines_of closed (stream_of l) → k ∈ map refusal_number (Refusal.BadFrame ∷ Refusal.BadBody ∷ call_refusals)

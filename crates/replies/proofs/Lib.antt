@@ -4,3 +4,4 @@ pub mod TrialLaws
 pub mod RefusalLaws
 pub mod OrderedLaws
 mod RepliedLaws
+pub mod NamedLaws
