@@ -1,4 +1,3 @@
 pub mod DecimalLaws
 pub mod TextLaws
 pub mod WrittenLaws
-pub mod ItoaLaws

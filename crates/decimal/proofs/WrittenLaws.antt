@@ -1,14 +1,15 @@
 -- What is stored piece by piece is laid as a whole; and what a writer answers and leaves, with room and without. Assumes nothing.
-use mathlib.Core.Path.{◌≡◌, ◌∙◌, refl, sym}
+use mathlib.Core.Path.{◌≡◌, ◌∙◌, refl, sym, ap}
 use mathlib.Core.List.{List, [], ◌∷◌, ◌++◌}
-use Prim.Native.Nat.{ℕ, ◌+◌, ◌<◌, ◌≤◌}
+use Prim.Native.Nat.{ℕ, ◌+◌, ◌-◌, ◌<◌, ◌≤◌}
 use native.Mathlib.Nat.{add-zero}
 use native.Mathlib.Numerals.{add-one}
 use native.Mathlib.Omega.{arith}
-use lib.ListN.{length, set, take-append-drop}
+use lib.ListN.{length, set, take, drop, drop_of_length-le, take-append-drop}
 use lib.Seq.{set_split}
 use borrow.Rule.Slice.PartMut.{put_mid}
 use borrow.Author.Tests.{le-leb, lt-leb}
+use Rattle.std.proofs.lemmas.List.{drop-set, length-set, length-take-le}
 use Rattle.std.proofs.lemmas.Slice.{put_mid-paste}
 use Rattle.endian.specs.Laid.{laid, stored}
 use Rattle.endian.proofs.LaidLaws.{laid_of_paste, length_laid, laid_of_laid, stored_of_room, stored_of_no_room}
@@ -26,6 +27,13 @@ pub laid_of_set_behind : (l vs : List ℕ) (at b : ℕ) → at + length vs < len
 laid_of_set_behind l vs at b h =
     let k = length_laid l vs at (omega arith) in
     laid_of_set (laid l at vs) (at + length vs) b (omega arith) ∙ laid_of_laid l vs at (omega arith) (b ∷ [])
+
+-- how many stand before the last place, and what stands from it on once a byte is stored there
+pub length_front : (l : List ℕ) (n b : ℕ) → length l ≡ n + 1 → length (take (length l - 1) (set l (length l - 1) b)) ≡ n
+length_front l n b h = length-take-le (length l - 1) (set l (length l - 1) b) (omega (arith, length-set l (length l - 1) b)) ∙ omega (arith, h)
+
+pub last_of_set : (l : List ℕ) (k b : ℕ) → k + 1 ≡ length l → drop k (set l k b) ≡ b ∷ []
+last_of_set l k b h = drop-set l k b (omega arith) ∙ ap (λ (r : List ℕ). b ∷ r) (drop_of_length-le l (omega arith))
 
 -- what a write to `&mut l[at..at + n]` leaves
 pub laid_of_part : (l vs ys : List ℕ) (at n : ℕ) → ys ≡ vs → n ≡ length vs → put_mid at n l ys ≡ laid l at vs

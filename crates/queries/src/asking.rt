@@ -12,7 +12,9 @@ use table::Table;
 pub(crate) fn check_kept(t: &Table, order: &[u32]) -> Result<bool, Refusal>
     ensures answer { check_reply result ≡ check_result (kept_flat t.now.held) order.now }
 {
-    checker::check(&table::kept_rows(t), order)
+    let k = table::kept_rows(t);
+    let end = 9 * k.count;
+    checker::check(&k.rows[..end], order)
 }
 
 // Writes an order of them at the front, as `writer::write` does. There are at most 32 by the table's type; said here, for callers.
@@ -21,5 +23,7 @@ pub(crate) fn write_kept(t: &Table, out: &mut [u32]) -> Result<usize, Refusal>
     ensures buffer { out.new ≡ (write_result (kept_flat t.now.held) 0 out.old).1 }
     ensures few { length (kept_flat t.now.held) ≤ 288 }
 {
-    writer::write(&table::kept_rows(t), 0, out)
+    let kept = table::kept_rows(t);
+    let end = 9 * kept.count;
+    writer::write(&kept.rows[..end], 0, out)
 }

@@ -2,14 +2,15 @@
 // calls. What each call does is defined in crate `method`. RULES, The table; Calls.
 #![tactic(auto)]
 
-ghost use Rattle.std.specs.Prelude.{◌≡◌, ◌*◌, length};
+ghost use Rattle.std.specs.Prelude.{◌≡◌, ◌*◌, ◌≤◌, length, take};
 ghost use Rattle.method.specs.Records.{closed as closedTable};
 ghost use Rattle.method.specs.Slots.{kept, kept_flat};
 ghost use Rattle.method.specs.Conditions.{is_closed};
 ghost use Rattle.method.specs.Calls.Call.{open_with, begin as beginCall, report_ticket, report_prepared, abort as abortCall, decide as decideCall, forget as forgetCall, sweep as sweepCall};
+ghost use Rattle.kept.specs.Packed.{packed_of};
 ghost use Rattle.table.specs.Shut.{shut_table, answer_to, table_after, used_by};
 
-use arrayvec::ArrayVec;
+use kept::packed::Kept;
 use method::{Answer, Answered, Number, Ticket};
 
 #[derive(Clone, Copy)]
@@ -101,9 +102,12 @@ pub fn is_closed(t: &Table) -> bool
 }
 
 // The kept rows as a ticket table, by slot.
-pub fn kept_rows(t: &Table) -> ArrayVec<u32, 288>
-    ensures items { result.items ≡ kept_flat t.now.held }
-    ensures whole { length (kept_flat t.now.held) ≡ 9 * length (kept t.now.held) }
+pub fn kept_rows(t: &Table) -> Kept
+    ensures answer { result ≡ packed_of t.now.held }
+    ensures items { take (9 * result.count) result.rows ≡ kept_flat t.now.held }
+    ensures count { result.count ≡ length (kept t.now.held) }
+    ensures whole { length (kept_flat t.now.held) ≡ 9 * result.count }
+    ensures few { result.count ≤ 32 }
 {
     kept::packed::rows(&t.held)
 }
