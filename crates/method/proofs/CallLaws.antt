@@ -96,7 +96,7 @@ effect_not_refused t sweep k e = never (cc)
 
 module _ (t : Table) (c : Call) where
   -- the two ways a step can go
-  pub data Steps (a : Answered Table) : Type 0 where
+  pub data Steps (a : Answered Table Refusal) : Type 0 where
     stopped : (k : Refusal) → FirstHolds (rules t c) k → a.table ≡ t → a.answer ≡ Err k → Steps a
     passed : NoneHolds (rules t c) → a ≡ effect t c → Steps a
 
@@ -113,14 +113,14 @@ module _ (t : Table) (c : Call) where
     where
       go : Steps (step t c) → (step t c).table ≡ t
       go (stopped j f p q) = p
-      go (passed n p) = absurd (effect_not_refused t c k (ap (λ (a : Answered Table). a.answer) (sym p) ∙ e))
+      go (passed n p) = absurd (effect_not_refused t c k (ap (λ (a : Answered Table Refusal). a.answer) (sym p) ∙ e))
 
   pub refused_exactly : (k : Refusal) → ((step t c).answer ≡ Err k) ↔ FirstHolds (rules t c) k
   refused_exactly k = (λ e. forth e step_goes, λ f. back f step_goes)
     where
       forth : (step t c).answer ≡ Err k → Steps (step t c) → FirstHolds (rules t c) k
       forth e (stopped j f p q) = let h : j ≡ k = cc in rw h at f
-      forth e (passed n p) = absurd (effect_not_refused t c k (ap (λ (a : Answered Table). a.answer) (sym p) ∙ e))
+      forth e (passed n p) = absurd (effect_not_refused t c k (ap (λ (a : Answered Table Refusal). a.answer) (sym p) ∙ e))
 
       back : FirstHolds (rules t c) k → Steps (step t c) → (step t c).answer ≡ Err k
       back f (stopped j g p q) = q ∙ ap {B = Result Answer Refusal} Err (first_unique (rules t c) j k g f)

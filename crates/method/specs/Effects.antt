@@ -21,7 +21,7 @@ use Rattle.method.specs.Conditions.{held_back}
 use Rattle.method.specs.Calls.{Call, CallAnswer, checks, first_true}
 use Rattle.method.specs.Calls.Call.{open_with, begin, report_ticket, report_prepared, abort, decide, forget, sweep}
 
-abbrev pub answered : Table → CallAnswer → Answered Table
+abbrev pub answered : Table → CallAnswer → Answered Table Refusal
 answered t a = record { table = t; answer = a }
 
 -- open: the floors, and zeros for the sites that the table lacks
@@ -57,7 +57,7 @@ unfoldable pub raised : Row → List ℕ → List Ticket → List Ticket
 raised r [] hs = hs
 raised r (s ∷ ss) hs = raised r ss (set hs s (ticket (max (get_or hs s (ticket 0)).0 (part_at r s).ticket.0)))
 
-unfoldable pub decided : Table → ℕ → Bool → Answered Table
+unfoldable pub decided : Table → ℕ → Bool → Answered Table Refusal
 decided t n true = answered
     (with_high (with_row t (slot_of t n) (committed_row t (row_of_number t n))) (raised (row_of_number t n) (sites_of (row_of_number t n).sites) t.high))
     (Ok (Answer.Commit (number n)))
@@ -76,7 +76,7 @@ swept_table t = with_rows t (map (swept_row t) t.rows)
 unfoldable pub swept_count : Table → ℕ
 swept_count t = length (keep (λ r. not (stays t r)) (kept t))
 
-unfoldable pub effect : Table → Call → Answered Table
+unfoldable pub effect : Table → Call → Answered Table Refusal
 effect t (open_with first floors) = answered (opened first floors) (Ok Answer.Done)
 effect t (begin sites) =
     answered (with_row (with_last t (number (t.last.0 + 1))) (free_slot t) (new_row t sites)) (Ok (Answer.Begun (number (t.last.0 + 1))))
@@ -89,9 +89,9 @@ effect t (forget n) = answered (freed t n) (Ok Answer.Done)
 effect t sweep = answered (swept_table t) (Ok (Answer.Swept (swept_count t)))
 
 -- a refused call changes nothing
-unfoldable pub act : Table → Call → Option Refusal → Answered Table
+unfoldable pub act : Table → Call → Option Refusal → Answered Table Refusal
 act t c None = effect t c
 act t c (Some k) = answered t (Err k)
 
-unfoldable pub step : Table → Call → Answered Table
+unfoldable pub step : Table → Call → Answered Table Refusal
 step t c = act t c (first_true (checks t c))

@@ -77,9 +77,9 @@ pub enum Answer {
 }
 
 // What a call leaves and says: the table, and the answer or the refusal. One type for the open table here and for the shut one of
-// crate `table`.
+// crate `table`; and for whatever a refusal is told by, which in every call is one of RULES' fourteen.
 #[derive(Clone, Copy)]
-pub struct Answered<T> {
+pub struct Answered<T, R = Refusal> {
     pub table: T,
-    pub answer: Result<Answer, Refusal>,
+    pub answer: Result<Answer, R>,
 }

@@ -143,7 +143,7 @@ step_sweeps t nc = rw (sweep_is t nc) (sweeps t)
 
 swept_is : (t : Table) → ¬ Closed t → (step t sweep).table ≡ swept_table t
 unfolding effect
-swept_is t nc = ap (λ (a : Answered Table). a.table) (sweep_is t nc)
+swept_is t nc = ap (λ (a : Answered Table Refusal). a.table) (sweep_is t nc)
 
 pub sweeps_exactly : SweepsExactly
 sweeps_exactly = record {

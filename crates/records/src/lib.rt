@@ -7,7 +7,6 @@ ghost use Rattle.method.specs.Records.{free_row, with_row, tickets_of};
 ghost use Rattle.method.specs.Effects.{answered};
 
 use method::{Answer, Answered, Number, Part, Row, SITES, SLOTS, Stage, State, Table, Ticket};
-use refusals::Refusal;
 
 // The tickets of parts that stand alone: behind a reference to a row a proof does not see how many there are.
 fn tickets_in(parts: &[Part; SITES]) -> [u32; SITES]
@@ -42,14 +41,12 @@ pub fn free_row() -> Row
     }
 }
 
-// A refusal leaves the table as it is.
-pub fn refuse(table: Table, r: Refusal) -> Answered<Table>
-    ensures answer { result ≡ answered table (Err r) }
+// A refusal leaves the table as it is, and is told as it is, whatever it is told by.
+pub fn refuse<R>(table: Table, r: R) -> Answered<Table, R>
+    ensures answer { result ≡ record { table = table; answer = Err r } }
 {
-    Answered {
-        table,
-        answer: Err(r),
-    }
+    let answer = Err(r);
+    Answered { table, answer }
 }
 
 // The table with another row in a slot. There are 32 slots: of another one nothing changes.

@@ -28,7 +28,7 @@ answer_words (Err r) = Words.Refused (number_of r)
 abbrev pub answer_line : CallAnswer → Line
 answer_line a = say (answer_words a)
 
-abbrev pub told : Answered Table → Table × Line
+abbrev pub told : Answered Table Refusal → Table × Line
 told a = (a.table, answer_line a.answer)
 
 -- what a message asks for: a call, or something of the kept rows, which changes nothing

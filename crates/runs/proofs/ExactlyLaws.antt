@@ -49,7 +49,7 @@ module _ (t : Table) (n : ℕ) (ok : NoneHolds (rules t (decide n))) where
   cycle_of_test : test ≡ false → Cycle Goes (q ∷ kept t)
   cycle_of_test e = (mapped_cycle_iff tickets_of (q ∷ kept t) Arrow).1 (cycle_of_weaker arrowb→arrow (cycle_of_not_acyclic arrowb (map tickets_of (q ∷ kept t)) e))
 
-  pub data Decision (a : Answered Table) : Type 0 where
+  pub data Decision (a : Answered Table Refusal) : Type 0 where
     commits : ¬ Cycle Goes (q ∷ kept t) → a ≡ decided t n true → Decision a
     cycles : Cycle Goes (q ∷ kept t) → a ≡ decided t n false → Decision a
 
@@ -72,7 +72,7 @@ module _ (t : Table) (n : ℕ) (nc : ¬ Closed t) (nu : ¬ Unknown t n) (cm : Is
       stopped : step t (forget n) ≡ answered (freed t n) (Ok Answer.Done) → ¬ (HasPred t (row_of_number t n) ⊎ HeldBack t (row_of_number t n))
       stopped e m =
           let r : (step t (forget n)).answer ≡ Err Refusal.TooEarly = (refused_exactly t (forget n) Refusal.TooEarly).1 (inr (nc, inr (nu, inr ((λ k. k cm), inl (m, refl))))) in
-          let s = ap (λ (a : Answered Table). a.answer) e in
+          let s = ap (λ (a : Answered Table Refusal). a.answer) e in
           never (cc)
 
 -- the count of a sweep is the slots that it frees

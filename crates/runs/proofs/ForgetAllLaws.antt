@@ -12,6 +12,7 @@ use native.Mathlib.Decide.{ℕ_discrete}
 use native.Mathlib.Nat.{not-suc-le-zero, le_of_suc-le-suc}
 use lib.ListN.{length, get_or, set, length-set, length-map}
 use lib.Seq.{ext_get_or}
+use Rattle.refusals.specs.declared.Refusal.{Refusal}
 use Rattle.graph.specs.Lists.{◌∈◌, keep}
 use Rattle.graph.specs.Path.{ArrowPath, ArrowPath.one, ArrowPath.more, Cycle}
 use Rattle.graph.specs.Acyclic.{into}
@@ -268,8 +269,8 @@ forget_all_from (suc k) t es v nc e = go (λ u w nu f. forget_all_from k u es w 
         let (ns, r) = again (with_row t i free_row) (invariant_u t es v nc i l) nc (omega (arith, fewer t es v nc i l)) in (
           num (row_at t i) ∷ ns,
           (
-            ap (λ (y : Answered Table). y.answer) f,
-            subst (λ (y : Table). ForgetAll y ns (swept_table t)) (sym (ap (λ (y : Answered Table). y.table) f)) (subst (ForgetAll (with_row t i free_row) ns) (same_sweep t es v nc i l) r),
+            ap (λ (y : Answered Table Refusal). y.answer) f,
+            subst (λ (y : Table). ForgetAll y ns (swept_table t)) (sym (ap (λ (y : Answered Table Refusal). y.table) f)) (subst (ForgetAll (with_row t i free_row) ns) (same_sweep t es v nc i l) r),
           ),
         )
 

@@ -4,6 +4,7 @@ use mathlib.Core.Path.{◌≡◌, refl, ap}
 use mathlib.Core.Logic.{◌↔◌, ◌⊎◌, inl, inr}
 use Prim.Native.Nat.{ℕ}
 use native.Mathlib.Decide.{ℕ_discrete}
+use Rattle.refusals.specs.declared.Refusal.{Refusal}
 use Rattle.std.specs.Prelude.{Ok}
 use Rattle.method.specs.declared.State.{State}
 use Rattle.method.specs.declared.Row.{Row}
@@ -34,7 +35,7 @@ use Rattle.runs.proofs.ExactlyLaws.{forgets_exactly}
 module _ (t : Table) (n : ℕ) (nc : ¬ Closed t) (nu : ¬ Unknown t n) (cm : IsCommitted (row_of_number t n)) where
   pub forget_done_iff : ((step t (forget n)).answer ≡ Ok Answer.Done) ↔ ((¬ HasPred t (row_of_number t n)) × (¬ HeldBack t (row_of_number t n)))
   unfolding rules
-  forget_done_iff = (λ e. forth e (step_goes t (forget n)), λ f. ap (λ (a : Answered Table). a.answer) ((forgets_exactly t n nc nu cm).1 f))
+  forget_done_iff = (λ e. forth e (step_goes t (forget n)), λ f. ap (λ (a : Answered Table Refusal). a.answer) ((forgets_exactly t n nc nu cm).1 f))
     where
       forth : (step t (forget n)).answer ≡ Ok Answer.Done → Steps t (forget n) (step t (forget n)) → (¬ HasPred t (row_of_number t n)) × (¬ HeldBack t (row_of_number t n))
       forth e (stopped k f p q) = never (cc)

@@ -144,7 +144,7 @@ module _ (t : Table) (es : List Entry) (v : Invariant t es) (c : Call) (a : Call
 
 -- every step is one of these
 module _ (t : Table) (es : List Entry) (v : Invariant t es) where
-  abbrev To : Call → Answered Table → Type 0
+  abbrev To : Call → Answered Table Refusal → Type 0
   To c r = Change t c r.answer r.table
 
   same : (u : Table) (c : Call) (a : CallAnswer) → u.last ≡ t.last → u.high ≡ t.high → u.sites ≡ t.sites → Same t c a u
@@ -233,7 +233,7 @@ module _ (t : Table) (es : List Entry) (v : Invariant t es) where
       (same _ _ _ refl refl refl)
     where
       swept : (step t sweep).table ≡ swept_table t
-      swept = ap (λ (x : Answered Table). x.table) (done_exactly t sweep (a, n))
+      swept = ap (λ (x : Answered Table Refusal). x.table) (done_exactly t sweep (a, n))
 
       used : (i : ℕ) → IsCommitted (row_at t i) → ¬ IsFree (row_at t i)
       used i c f = never (cc)

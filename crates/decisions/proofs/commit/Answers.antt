@@ -1,5 +1,6 @@
 -- `decisions::commit` meets its contract. Assumes nothing.
 use mathlib.Core.Path.{ap}
+use Rattle.refusals.specs.declared.Refusal.{Refusal}
 use Rattle.std.specs.Prelude.{Ok}
 use Rattle.method.specs.declared.Table.{Table}
 use Rattle.method.specs.declared.Answer.{Answer}
@@ -10,4 +11,4 @@ use Rattle.decisions.proofs.commit.Goals as goal
 
 pub returns : goal.returns
 unfolding committed_row
-returns c = let a = c.args in record { answer = ap {B = Answered Table} (λ hs. answered (with_high (with_row a.t a.slot (committed_row a.t (row_at a.t a.slot))) hs) (Ok (Answer.Commit a.n))) c.raised-table.ensures.answer }
+returns c = let a = c.args in record { answer = ap {B = Answered Table Refusal} (λ hs. answered (with_high (with_row a.t a.slot (committed_row a.t (row_at a.t a.slot))) hs) (Ok (Answer.Commit a.n))) c.raised-table.ensures.answer }
