@@ -26,8 +26,14 @@ worded flat = min (length flat / 9) 32
 unfoldable pub preds_of : List ℕ → List ℕ
 preds_of flat = preds_from flat (worded flat) 0 32
 
--- the words of the first i rows are made, and zeros stand behind them
-pub record Filled (flat : List ℕ) (n i : ℕ) (preds : List ℕ) : Type 0 where
+-- the words of the first i rows are known as far as these rows go
+pub record Joined (flat : List ℕ) (i : ℕ) (preds : List ℕ) : Type 0 where
   pub size : length preds ≡ 32
-  pub done : (r : ℕ) → r < i → get_or preds r 0 ≡ pred_word flat n r
-  pub rest : (r : ℕ) → i ≤ r → r < 32 → get_or preds r 0 ≡ 0
+  pub each : (r : ℕ) → r < 32 → get_or preds r 0 ≡ pred_at flat i r
+
+-- and row i is being joined to them: the first j have it in their words, and its own has those j
+pub record Joining (flat : List ℕ) (i j : ℕ) (mine : ℕ) (preds : List ℕ) : Type 0 where
+  pub size : length preds ≡ 32
+  pub own : mine ≡ pred_word flat j i
+  pub done : (r : ℕ) → r < j → get_or preds r 0 ≡ pred_word flat (suc i) r
+  pub rest : (r : ℕ) → j ≤ r → r < 32 → get_or preds r 0 ≡ pred_at flat i r

@@ -10,6 +10,7 @@ use good::entries::tickets_at;
 pub mod preds;
 
 // The tickets of row i, and of a row that the list ends in those that it has; zeros for the others.
+#[inline(always)]
 fn tickets_of(rows: &[u32], i: usize) -> [u32; 8]
     requires { i ≤ length rows.now / 9 }
     ensures answer { (s : ℕ) → ticket_at result s ≡ ticket_at (entry_at rows.now i).tickets s }

@@ -18,10 +18,9 @@ pub fn number_at(rows: &[u32], i: usize) -> u32
 pub fn tickets_at(rows: &[u32], i: usize) -> [u32; 8]
     ensures answer { result ≡ tickets_in rows.now i }
 {
-    let mut own = [0; 8];
     if i < rows.len() / 9 {
         let k = 9 * i + 1;
-        own.copy_from_slice(&rows[k..k + 8]);
+        return <[u32; 8]>::try_from(&rows[k..k + 8]).unwrap();
     }
-    own
+    [0; 8]
 }

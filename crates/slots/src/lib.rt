@@ -15,6 +15,7 @@ fn has_number(r: &Row, n: Number) -> bool
     r.state != State::Free && r.number == n
 }
 
+#[inline(never)]
 fn slot_of(t: &Table, n: Number) -> Option<usize>
     ensures answer { result ≡ position (has_number n.0) t.now.rows }
     ensures inside { IfSome result (λ i. i < 32) }
@@ -33,6 +34,9 @@ pub fn enter(t: &Table, n: Number) -> Result<usize, Refusal>
     slot_of(t, n).ok_or(Refusal::Unknown)
 }
 
+// A function of its own in the program too: where the compiler takes the search into its one caller, it reads 32 places one by one there,
+// and then copies whole tables in as many pieces (PERFORMANCE, What was had for free).
+#[inline(never)]
 pub fn lowest_free(t: &Table) -> Option<usize>
     ensures answer { result ≡ position (λ r. is_free r.state) t.now.rows }
     ensures inside { IfSome result (λ i. i < 32) }

@@ -1,5 +1,5 @@
 -- `checker::check` meets its contract: the places from n-index on decide. Assumes nothing.
-use Rattle.std.proofs.Common.{◌≡◌, ◌%◌, true, get_or, take, sym, ◌∙◌, add-one, arith}
+use Rattle.std.proofs.Common.{◌≡◌, ◌%◌, true, get_or, take, sym, ◌∙◌, add-one, Some, None, arith}
 use native.Mathlib.Nat.{mod-eq_of_lt}
 use lib.Seq.{take-suc}
 use Rattle.orders.specs.Entries.{entries_in}
@@ -8,7 +8,7 @@ use Rattle.orders.proofs.GoodLaws.{goodb→good}
 use Rattle.orders.proofs.OrderLaws.{no_order_of_length}
 use Rattle.arrows.proofs.PlacedLaws.{marked_none, marked_more}
 use Rattle.checker.proofs.AnswerLaws.{check_of_bad, check_of_wrong, check_of_right}
-use Rattle.checker.proofs.StandLaws.{stand_of_row, stand_of_none, stand_end, stand_no, stand_more, order_of_places}
+use Rattle.checker.proofs.StandLaws.{stand_of_found, stand_end, stand_no, stand_more, order_of_places}
 use Rattle.checker.proofs.check.Goals.{Else-not-is_good}
 use Rattle.checker.proofs.check.Goals as goal
 
@@ -31,7 +31,7 @@ pub returns-in_default : goal.returns-in_default
 returns-in_default c = let a = c.args in
     let g = good ((goal.at.returns-in_default c).Else-not-is_good) in
     let p = c.loop-n.n-index in
-    let stands = stand_of_none a.rows.now c.loop-n.placed (take p a.order.now) c.loop-n.invariant.1 (goodb→good a.rows.now g).apart.numbers (get_or a.order.now p 0) c.in_default.ensures.answer in
+    let stands = stand_of_found a.rows.now c.loop-n.placed (take p a.order.now) c.loop-n.invariant.1 (goodb→good a.rows.now g).apart.numbers (get_or a.order.now p 0) None c.in_default.ensures.answer in
     record { answer = sym (check_of_wrong a.rows.now a.order.now g (c.loop-n.invariant.0 ∙ stand_no (entries_in a.rows.now) a.order.now p c.loop-n-test.true stands)) }
 
 pub may_stand-requires : goal.may_stand-requires
@@ -42,7 +42,7 @@ returns-then-not-may_stand c = let a = c.args in
     let g = good ((goal.at.returns-then-not-may_stand c).Else-not-is_good) in
     let p = c.loop-n.n-index in
     let row = c.in-Some.ensures.answer in
-    let stands = stand_of_row a.rows.now c.loop-n.placed (take p a.order.now) c.loop-n.invariant.1 (goodb→good a.rows.now g).apart.numbers (get_or a.order.now p 0) c.in-Some.i row.0 row.1 in
+    let stands = stand_of_found a.rows.now c.loop-n.placed (take p a.order.now) c.loop-n.invariant.1 (goodb→good a.rows.now g).apart.numbers (get_or a.order.now p 0) (Some c.in-Some.i) row in
     record {
       answer = sym (check_of_wrong a.rows.now a.order.now g
           (c.loop-n.invariant.0 ∙ stand_no (entries_in a.rows.now) a.order.now p c.loop-n-test.true (stands ∙ sym c.may_stand.ensures.answer ∙ c.if-not-may_stand.true)));
@@ -57,7 +57,7 @@ loop-n-preserved c = let a = c.args in
     let before = take p a.order.now in
     let v = c.loop-n.invariant in
     let row = c.in-Some.ensures.answer in
-    let stands = stand_of_row flat c.loop-n.placed before v.1 good.apart.numbers (get_or a.order.now p 0) i row.0 row.1 in
+    let stands = stand_of_found flat c.loop-n.placed before v.1 good.apart.numbers (get_or a.order.now p 0) (Some i) row in
     let may = sym c.may_stand.ensures.answer ∙ c.if-not-may_stand.false in
     let small : i % 32 ≡ i = mod-eq_of_lt (omega (arith, good.few, row.0)) in
     let word = rw small at c.with-placed.ensures.answer in
