@@ -18,3 +18,4 @@ pub mod PartsLaws
 pub mod ReachedLaws
 pub mod CheckLaws
 pub mod FullLaws
+pub mod SearchLaws

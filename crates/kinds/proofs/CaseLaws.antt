@@ -1,5 +1,5 @@
 -- What a row of tests that gave an answer says of each of them, and a proof by cases below a bound. Assumes nothing.
-use Rattle.std.proofs.Common.{◌≡◌, refl, Bool, true, false, cond, ◌&&◌, ℕ, zero, suc, ◌<◌, Option, None, Some, arith}
+use Rattle.std.proofs.Common.{◌≡◌, refl, Bool, true, false, cond, ◌&&◌, ℕ, zero, suc, ◌<◌, ◌≤◌, Option, None, Some, arith}
 use Rattle.std.proofs.lemmas.Option.{none-some}
 
 module _ {A : Type 0} where
@@ -21,6 +21,10 @@ pub and_right : (a b : Bool) → a && b ≡ true → b ≡ true
 and_right true b e = e
 and_right false true e = refl
 and_right false false e = e
+
+-- a number that is at least m and is not m
+pub above : {m k : ℕ} → m ≤ k → (k ≡ m → ⊥) → suc m ≤ k
+above h e = omega arith
 
 -- a proof for each number below n
 abbrev Each : (ℕ → Type 0) → ℕ → Type 0

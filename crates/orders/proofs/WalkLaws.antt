@@ -2,13 +2,13 @@
 use mathlib.Core.Path.{◌≡◌, refl, sym}
 use mathlib.Core.Bool.{Bool, true, false, ◌||◌, or-false, or_assoc}
 use mathlib.Core.List.{List, [], ◌∷◌}
-use Prim.Native.Nat.{ℕ, zero, suc, ◌+◌, ◌-◌, ◌<◌, ◌≤◌}
+use Prim.Native.Nat.{ℕ, zero, suc, ◌+◌, ◌-◌, ◌/◌, ◌<◌, ◌≤◌}
 use native.Mathlib.Numerals.{add-one}
 use native.Mathlib.Omega.{arith}
-use lib.ListN.{take}
+use lib.ListN.{length, take}
 use Rattle.graph.specs.Lists.{any_of}
 use Rattle.orders.specs.Arrow.{Tickets, ticket_at, any_site, beforeb, arrowb}
-use Rattle.orders.specs.Entries.{Entry, entry_at, entries_from}
+use Rattle.orders.specs.Entries.{Entry, entry_at, entries_from, entries_in}
 use Rattle.orders.proofs.ArrowLaws.{beforeb_zero}
 
 -- of n rows, those from row i on
@@ -31,6 +31,11 @@ module _ (flat : List ℕ) (i n : ℕ) where
 
     pub any_row_end : n ≤ i → any_of f (entries_from flat i (n - i)) ≡ false
     any_row_end h = rw (rows_end h)
+
+-- a search through all of them
+pub any_row_start : (flat : List ℕ) (f : Entry → Bool) → any_of f (entries_in flat) ≡ any_of f (entries_from flat 0 (length flat / 9 - 0))
+unfolding entries_in
+any_row_start flat f = let e : length flat / 9 - 0 ≡ length flat / 9 = omega arith in rw e
 
 -- a test of two tickets that fails where one of them is 0, over the first s sites
 module _ (f : ℕ → ℕ → Bool) (left : (y : ℕ) → f 0 y ≡ false) (right : (x : ℕ) → f x 0 ≡ false) where

@@ -1,1 +1,1 @@
-pub mod AllLaws
+pub mod PreparedLaws

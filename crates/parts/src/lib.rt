@@ -2,29 +2,30 @@
 // tickets? RULES, The table.
 #![tactic(auto)]
 
-ghost use Rattle.std.specs.Prelude.{◌≡◌, not};
-ghost use Rattle.std.specs.List.{list_all};
+ghost use Rattle.std.specs.Prelude.{◌≡◌, not, length};
+ghost use Rattle.graph.specs.Lists.{keep};
 ghost use Rattle.method.specs.Records.{is_prepared, part_at};
 ghost use Rattle.sites.specs.Sites.{sites_of};
-ghost use Rattle.method.specs.Conditions.{unprepared, not_prepared};
+ghost use Rattle.method.specs.Conditions.{not_prepared};
 ghost use Rattle.method.specs.Effects.{raised as raisedTickets};
 
 use method::{Row, SITES, Stage, State, Ticket};
 
-// Is each of its sites prepared?
+// How many of its sites are prepared.
 #[tactic(auto, using(sites::proofs::SitesLaws::first_lt))]
-fn are_prepared(row: &Row) -> bool
-    ensures { result ≡ list_all (λ s. is_prepared (part_at row.now s).stage) (sites_of row.now.sites) }
+fn prepared_sites(row: &Row) -> usize
+    ensures answer { result ≡ length (keep (λ s. is_prepared (part_at row.now s).stage) (sites_of row.now.sites)) }
 {
-    sites::each(row.sites).all(|s| row.parts[s].stage == Stage::Prepared)
+    sites::each(row.sites)
+        .filter(|s| row.parts[*s].stage == Stage::Prepared)
+        .count()
 }
 
-// Active, and each of its sites prepared.
-#[tactic(auto, using(crate::proofs::AllLaws::all_of_none), unfolding(method::specs::Conditions::unprepared))]
+// Active, and as many sites prepared as it uses.
 pub fn is_prepared(row: &Row) -> bool
     ensures answer { result ≡ not (not_prepared row.now) }
 {
-    row.state == State::Active && are_prepared(row)
+    row.state == State::Active && prepared_sites(row) == sites::used(row.sites) as usize
 }
 
 // The highest tickets, raised at the row's sites to its own.

@@ -1,9 +1,9 @@
 -- The kept rows of a run at the desk, and so in all lines of the service. Assumes nothing.
-use mathlib.Core.Path.{◌≡◌, refl, sym, ap, subst, ◌∙◌}
+use mathlib.Core.Path.{◌≡◌, refl, sym}
 use mathlib.Core.List.Memᴰ
 use mathlib.Core.List.Memᴰ.{head as here}
 use mathlib.Core.List.Memᴰ.{tail as there}
-use mathlib.Core.List.{List, [], ◌∷◌, map}
+use mathlib.Core.List.{List, ◌∷◌, map}
 use Prim.Native.Nat.{ℕ}
 use Rattle.refusals.specs.declared.Refusal.{Refusal}
 use Rattle.refusals.specs.Numbers.{number_of}
@@ -16,10 +16,7 @@ use Rattle.std.proofs.Common.{Option, Some, None}
 use Rattle.wire.specs.Message.{Message}
 use Rattle.wire.specs.Body.{message_of}
 use Rattle.frames.specs.Stream.{Stream, ended, cut_off, framed}
-use Rattle.lines.proofs.RefusedLaws.{same_refusal}
-use Rattle.lines.specs.Line.{Line.say, refused_line}
-use Rattle.replies.proofs.NamedLaws.{named_body}
-use Rattle.method.specs.declared.Table.{Table}
+use Rattle.lines.specs.Line.{Line.say}
 use Rattle.method.specs.Slots.{kept_entries, kept_flat}
 use Rattle.method.specs.Calls.{call_refusals}
 use Rattle.runs.specs.Run.{Run, Run.call, after}
@@ -28,6 +25,7 @@ use Rattle.runs.proofs.HistoryLaws.{invariant_run}
 use Rattle.invariant.proofs.KeptLaws.{rows_of_kept, kept_good, kept_ordered}
 use Rattle.replies.specs.Desk.{Asks, Asks.calls, Asks.proposes, Asks.wants_order, asks_for, reply_to, desk, desk_read, desk_body}
 use Rattle.turns.specs.Lines.{lines_of}
+use Rattle.replies.proofs.RefusalLaws.{number_told}
 use Rattle.replies.proofs.OrderedLaws.{body_listed}
 
 -- the table of the service is at each message the table after some run of calls
@@ -57,45 +55,16 @@ module _ (r : Run) where
   pub flat_ordered : (o : List ℕ) × InOrder (entries_in (kept_flat (after r))) o
   flat_ordered = rw run_rows run_ordered
 
-never_in_lines : (s : Stream) (r : Run) (k : Refusal) → refused_line k ∈ lines_of (after r) s → k ∈ Refusal.BadFrame ∷ Refusal.BadBody ∷ call_refusals
+-- of any number that a line tells as a refusal's
+pub never_told : (r : Run) (b : List ℕ) (k : ℕ) → (desk_body (after r) b).1 ≡ say (Words.Refused k) → k ∈ map number_of (Refusal.BadBody ∷ call_refusals)
+never_told r b k = body_listed (after r) (run_good r) (flat_ordered r) k b
+
+pub never_in_lines : (s : Stream) (r : Run) (k : ℕ) → say (Words.Refused k) ∈ lines_of (after r) s → k ∈ map number_of (Refusal.BadFrame ∷ Refusal.BadBody ∷ call_refusals)
 unfolding lines_of
 never_in_lines ended r k i = absurd (Memᴰ.not-nil i)
-never_in_lines (cut_off l) r k (here e) = here (same_refusal k Refusal.BadFrame e)
+never_in_lines (cut_off l) r k (here e) = here (number_told Refusal.BadFrame k (sym e))
 never_in_lines (cut_off l) r k (there i) = absurd (Memᴰ.not-nil i)
-never_in_lines (Stream.refused l) r k (here e) = here (same_refusal k Refusal.BadFrame e)
+never_in_lines (Stream.refused l) r k (here e) = here (number_told Refusal.BadFrame k (sym e))
 never_in_lines (Stream.refused l) r k (there i) = absurd (Memᴰ.not-nil i)
-never_in_lines (framed b s) r k (here e) = there (body_listed (after r) (run_good r) (flat_ordered r) k b (sym e))
+never_in_lines (framed b s) r k (here e) = there (never_told r b k (sym e))
 never_in_lines (framed b s) r k (there i) = let (q, e) = desk_run r b in never_in_lines s q k (rw e at i)
-
--- the same of any number that a line tells as a refusal's
-in_numbers : (l : List Refusal) {r : Refusal} → r ∈ l → number_of r ∈ map number_of l
-in_numbers [] i = absurd (Memᴰ.not-nil i)
-in_numbers (q ∷ l) (here e) = here (ap number_of e)
-in_numbers (q ∷ l) (there i) = there (in_numbers l i)
-
-told : (r : Refusal) (k : ℕ) → refused_line r ≡ say (Words.Refused k) → k ≡ number_of r
-told r k e = cc
-
-pub never_told : (r : Run) (b : List ℕ) (k : ℕ) → (desk_body (after r) b).1 ≡ say (Words.Refused k) → k ∈ map number_of (Refusal.BadBody ∷ call_refusals)
-never_told r b k e =
-    let (q, f) = named_body (after r) b k e in
-    let n : k ≡ number_of q = told q k (sym f ∙ e) in
-    let P : ℕ → Type 0 = λ j. j ∈ map number_of (Refusal.BadBody ∷ call_refusals) in
-    subst P (sym n) (in_numbers (Refusal.BadBody ∷ call_refusals) (body_listed (after r) (run_good r) (flat_ordered r) q b f))
-
-named_in_lines : (s : Stream) (t : Table) (k : ℕ) → say (Words.Refused k) ∈ lines_of t s → (q : Refusal) × (k ≡ number_of q)
-unfolding lines_of
-named_in_lines ended t k i = absurd (Memᴰ.not-nil i)
-named_in_lines (cut_off l) t k (here e) = (Refusal.BadFrame, told Refusal.BadFrame k (sym e))
-named_in_lines (cut_off l) t k (there i) = absurd (Memᴰ.not-nil i)
-named_in_lines (Stream.refused l) t k (here e) = (Refusal.BadFrame, told Refusal.BadFrame k (sym e))
-named_in_lines (Stream.refused l) t k (there i) = absurd (Memᴰ.not-nil i)
-named_in_lines (framed b s) t k (here e) = let (q, f) = named_body t b k (sym e) in (q, told q k (sym f ∙ sym e))
-named_in_lines (framed b s) t k (there i) = named_in_lines s (desk_body t b).0 k i
-
-pub never_told_in_lines : (s : Stream) (r : Run) (k : ℕ) → say (Words.Refused k) ∈ lines_of (after r) s → k ∈ map number_of (Refusal.BadFrame ∷ Refusal.BadBody ∷ call_refusals)
-never_told_in_lines s r k i =
-    let (q, n) = named_in_lines s (after r) k i in
-    let In : ℕ → Type 0 = λ j. say (Words.Refused j) ∈ lines_of (after r) s in
-    let P : ℕ → Type 0 = λ j. j ∈ map number_of (Refusal.BadFrame ∷ Refusal.BadBody ∷ call_refusals) in
-    subst P (sym n) (in_numbers (Refusal.BadFrame ∷ Refusal.BadBody ∷ call_refusals) (never_in_lines s r q (subst In n i)))

@@ -46,7 +46,6 @@ use Rattle.turns.proofs.PieceLaws.{turn_rest, pieces_whole}
 use Rattle.turns.proofs.PromptLaws.{turn_stops}
 use Rattle.promises.specs.Demand1.{call_of, Serves, Answered, RefusedKeeps, RefusedExactly, lines_for, Lines}
 use Rattle.promises.proofs.AnsweredLaws.{step_answered}
-use Rattle.replies.proofs.NamedLaws.{named_body}
 use Rattle.replies.proofs.RefusalLaws.{body_keeps, ten_iff, desk_of_none, one_of_closed, four_of_open}
 
 pub answered : Answered
@@ -69,7 +68,7 @@ refused_keeps = record {
   orders = λ flat place out r after g k e. order_keeps flat place out _ after (rw g.1 (write_result_lem flat place out)) k (sym g.0 ∙ e);
   messages = λ b out place r after g k e. g.1 ∙ message_keeps b out place (write_answer b out place) k (rw g.0 at e);
   roomless = λ t b out place r after g h. let e = lt-leb (place + 358) (length out) h in (g.0 ∙ rw e, g.1 ∙ rw e, g.2 ∙ rw e);
-  served = λ t b k e. let (r, f) = named_body t b k e in body_keeps t r b f;
+  served = λ t b k. body_keeps t k b;
 }
 
 -- an answer that fits, and no second one does, is the answer exactly if it fits

@@ -24,8 +24,8 @@ use Rattle.runs.proofs.ReportedLaws.{history_commits, history_reported}
 use Rattle.promises.specs.Demand3.{OrderCheck, CCall, OrderWriter, History, KeptRows, NeverInStream}
 use Rattle.orders.proofs.WriteIffLaws.{bad_written, no_room_written, no_order_written, wrote_written, written_of_order}
 use Rattle.orders.proofs.JudgedIffLaws.{bad_iff, yes_iff, no_iff}
-use Rattle.replies.proofs.OrderedLaws.{body_listed, desk_order, proposal_iff}
-use Rattle.promises.proofs.KeptLaws.{run_good, run_rows, run_ordered, flat_ordered, never_told, never_told_in_lines}
+use Rattle.replies.proofs.OrderedLaws.{desk_order, proposal_iff}
+use Rattle.promises.proofs.KeptLaws.{run_good, run_rows, run_ordered, flat_ordered, never_told, never_in_lines}
 
 -- an answer by its reply
 by_reply : {A B : Type 0} {P : Type 0} (f : A → B) → ((a b : A) → f a ≡ f b → a ≡ b) → (r x : A) → (f r ≡ f x) ↔ P → (r ≡ x) ↔ P
@@ -88,4 +88,4 @@ kept_rows r = record {
 
 pub never_in_stream : NeverInStream
 unfolding after
-never_in_stream l k = never_told_in_lines (stream_of l) start k
+never_in_stream l k = never_in_lines (stream_of l) start k

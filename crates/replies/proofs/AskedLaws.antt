@@ -95,6 +95,9 @@ module _ (b : List ℕ) where
     pub not_order : q ≡ Ordering → ⊥
     not_order e = let f : Asked.Order ≡ Asked.Call q = sym (ap sort_of e) ∙ sorted in never (cc)
 
+  pub wrong_of_nothing : (r : Refusal) → asked_of (body_answer (message_of b)) ≡ Err r → body_answer (message_of b) ≡ Err r
+  wrong_of_nothing r = read_of_asked (Err r)
+
   pub request_of_proposal : (c : ℕ) → asked_of (body_answer (message_of b)) ≡ Ok (Asked.Proposal c) → body_answer (message_of b) ≡ Ok (Proposing c)
   request_of_proposal c = read_of_asked (Ok (Asked.Proposal c))
 
@@ -123,7 +126,7 @@ module _ (b : List ℕ) where
 
 -- a call's answer handed on is what the desk owes, for each message that is one call
 module _ (t : Table) (b : List ℕ) (q p : Request) (h : asked_of (body_answer (message_of b)) ≡ Ok (Asked.Call q)) (e : q ≡ p) where
-  pub handed : (c : Call) → desk t.held (message_with p b) ≡ told (step t.held c) → (a : Answered Table)
+  pub handed : (c : Call) → desk t.held (message_with p b) ≡ told (step t.held c) → (a : Answered Table Refusal)
       → (a.answer ≡ answer_to t c) × (a.table ≡ table_after t c)
       → (a.table ≡ shut_table (desk_body t.held b).0) × (answer_line a.answer ≡ (desk_body t.held b).1)
   handed c d a s =

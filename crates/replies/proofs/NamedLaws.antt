@@ -59,6 +59,10 @@ named_reply t wants_order =
     let rows = kept_flat t in
     named_open (is_closed t) (order_line rows) (named_order (goodb rows) (acyclic entry_arrowb (entries_in rows)) (greedy entry_arrowb number_of (entries_in rows)))
 
+pub named_desk : (t : Table) (m : Message) (k : ℕ) → (desk t m).1 ≡ say (Words.Refused k) → (r : Refusal) × ((desk t m).1 ≡ refused_line r)
+unfolding desk
+named_desk t m = named_reply t (asks_for m)
+
 pub named_body : (t : Table) (b : List ℕ) (k : ℕ) → (desk_body t b).1 ≡ say (Words.Refused k) → (r : Refusal) × ((desk_body t b).1 ≡ refused_line r)
 unfolding desk
 named_body t b = go (message_of b)

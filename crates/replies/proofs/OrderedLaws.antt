@@ -3,11 +3,12 @@ use mathlib.Core.Path.{◌≡◌, refl, sym, ap, ◌∙◌}
 use mathlib.Core.Bool.{Bool, true, false, cond}
 use mathlib.Core.List.Memᴰ.{head as here}
 use mathlib.Core.List.Memᴰ.{tail as behind}
-use mathlib.Core.List.{List, ◌∷◌}
+use mathlib.Core.List.{List, ◌∷◌, map}
 use mathlib.Core.Logic.{◌↔◌, inl, inr}
 use Rattle.std.proofs.Common.{Option, Some, None}
 use Prim.Native.Nat.{ℕ}
 use Rattle.refusals.specs.declared.Refusal.{Refusal}
+use Rattle.refusals.specs.Numbers as refusals
 use Rattle.graph.specs.Lists.{◌∈◌}
 use Rattle.graph.specs.Path.{Cycle}
 use Rattle.graph.specs.Acyclic.{acyclic}
@@ -25,8 +26,8 @@ use Rattle.orders.proofs.OrderLaws.{in_orderb→in_order, in_order→in_orderb, 
 use Rattle.orders.proofs.WriteLaws.{smallest_first_of_greedy}
 use Rattle.wire.specs.Message.{Message, proposing, ordering}
 use Rattle.wire.specs.Body.{message_of}
-use Rattle.lines.proofs.RefusedLaws.{same_refusal}
-use Rattle.lines.specs.Line.{Line, bad_line, good_line, refused_line}
+use Rattle.lines.specs.declared.Words.{Words}
+use Rattle.lines.specs.Line.{Line, Line.say, bad_line, good_line, refused_line}
 use Rattle.method.specs.declared.Table.{Table}
 use Rattle.method.specs.Slots.{kept_flat}
 use Rattle.method.specs.Conditions.{Closed, is_closed}
@@ -37,7 +38,7 @@ use Rattle.method.proofs.ConditionLaws.{closed_iff}
 use Rattle.queries.specs.Queries.{proposal_line, order_line, if_open}
 use Rattle.replies.specs.Desk.{Asks, Asks.calls, Asks.proposes, Asks.wants_order, asks_for, reply_to, desk, desk_read, desk_body}
 use Rattle.method.proofs.ListedLaws.{refusal_listed}
-use Rattle.replies.proofs.RefusalLaws.{refused_of_line}
+use Rattle.replies.proofs.RefusalLaws.{refused_of_line, number_listed}
 
 -- over a list of kept rows that is good and has an order
 module _ (t : Table) (g : GoodRows (kept_flat t)) (x : (o : List ℕ) × InOrder (entries_in (kept_flat t)) o) where
@@ -57,29 +58,35 @@ module _ (t : Table) (g : GoodRows (kept_flat t)) (x : (o : List ℕ) × InOrder
   proposal_line_lem ns b e = rw (good→goodb (kept_flat t) g, e)
 
   -- no message gets 12 or 13
-  module _ (k : Refusal) where
-    open_listed : (y : Line) → ¬ (y ≡ refused_line k) → if_open t y ≡ refused_line k → k ∈ call_refusals
+  module _ (k : ℕ) where
+    abbrev told : Line
+    told = say (Words.Refused k)
+
+    abbrev Listed : Type 0
+    Listed = k ∈ map refusals.number_of call_refusals
+
+    open_listed : (y : Line) → ¬ (y ≡ told) → if_open t y ≡ told → Listed
     open_listed y n = go (is_closed t)
       where
-        go : (b : Bool) → cond b (refused_line Refusal.NotOpen) y ≡ refused_line k → k ∈ call_refusals
-        go true e = here (let f : Refusal.NotOpen ≡ k = same_refusal Refusal.NotOpen k e in sym f)
+        go : (b : Bool) → cond b (refused_line Refusal.NotOpen) y ≡ told → Listed
+        go true e = here (let f : 1 ≡ k = cc in sym f)
         go false e = absurd (n e)
 
-    not_refused : (b : Bool) → ¬ (cond b good_line bad_line ≡ refused_line k)
+    not_refused : (b : Bool) → ¬ (cond b good_line bad_line ≡ told)
     not_refused true e = never (cc)
     not_refused false e = never (cc)
 
-    reply_listed : (a : Asks) → (reply_to t a).1 ≡ refused_line k → k ∈ call_refusals
-    reply_listed (calls c) e = refusal_listed t c k (refused_of_line (step t c).answer k e)
+    reply_listed : (a : Asks) → (reply_to t a).1 ≡ told → Listed
+    reply_listed (calls c) e = let (r, n, f) = refused_of_line (step t c).answer k e in number_listed call_refusals n (refusal_listed t c r f)
     reply_listed (proposes ns) e = open_listed (proposal_line (kept_flat t) ns) (λ f. not_refused (in_orderb rows ns) (sym (proposal_line_lem ns (in_orderb rows ns) refl) ∙ f)) e
     reply_listed wants_order e = open_listed (order_line (kept_flat t)) (λ g. let f = sym order_line_lem ∙ g in never (cc)) e
 
-    pub body_listed : (b : List ℕ) → (desk_body t b).1 ≡ refused_line k → k ∈ Refusal.BadBody ∷ call_refusals
+    pub body_listed : (b : List ℕ) → (desk_body t b).1 ≡ say (Words.Refused k) → k ∈ map refusals.number_of (Refusal.BadBody ∷ call_refusals)
     unfolding desk
     body_listed b = go (message_of b)
       where
-        go : (o : Option Message) → (desk_read t o).1 ≡ refused_line k → k ∈ Refusal.BadBody ∷ call_refusals
-        go None e = here (let f : Refusal.BadBody ≡ k = same_refusal Refusal.BadBody k e in sym f)
+        go : (o : Option Message) → (desk_read t o).1 ≡ told → k ∈ map refusals.number_of (Refusal.BadBody ∷ call_refusals)
+        go None e = here (let f : 10 ≡ k = cc in sym f)
         go (Some m) e = behind (reply_listed (asks_for m) e)
 
   -- what an open table answers

@@ -1,15 +1,17 @@
 -- Which refusals a message at the desk can get, and that a refused one leaves the table. Assumes nothing.
-use mathlib.Core.Path.{◌≡◌, refl, sym, ap, ◌∙◌}
+use mathlib.Core.Path.{◌≡◌, refl, sym, ap, subst, ◌∙◌}
 use mathlib.Core.Bool.{Bool, true, false, cond}
+use mathlib.Core.List.Memᴰ
 use mathlib.Core.List.Memᴰ.{head as here}
 use mathlib.Core.List.Memᴰ.{tail as behind}
-use mathlib.Core.List.{List, ◌∷◌}
+use mathlib.Core.List.{List, ◌∷◌, map}
 use mathlib.Core.Logic.{◌↔◌, ◌≢◌, inl}
 use Rattle.std.proofs.Common.{Option, Some, None}
 use Prim.Native.Nat.{ℕ}
 use Rattle.std.specs.Prelude.{Ok, Err}
 use Rattle.refusals.specs.declared.Refusal.{Refusal}
 use Rattle.refusals.specs.Numbers.{number_of}
+use Rattle.refusals.proofs.NumberLaws.{numbers_differ}
 use Rattle.endian.specs.Places.{Below}
 use Rattle.graph.specs.Lists.{◌∈◌}
 use Rattle.graph.specs.Acyclic.{acyclic}
@@ -26,7 +28,8 @@ use Rattle.wire.specs.Body.{message_of}
 use Rattle.wire.specs.Meaning.{NoBody}
 use Rattle.wire.proofs.BodyLaws.{message_of_body, body_of_message, no_body_of_none}
 use Rattle.lines.proofs.RefusedLaws.{same_refusal}
-use Rattle.lines.specs.Line.{Line, bad_line, good_line, refused_line}
+use Rattle.lines.specs.declared.Words.{Words}
+use Rattle.lines.specs.Line.{Line, Line.say, bad_line, good_line, refused_line}
 use Rattle.method.specs.declared.Table.{Table}
 use Rattle.method.specs.declared.Answer.{Answer}
 use Rattle.method.specs.Slots.{kept_flat}
@@ -40,14 +43,29 @@ use Rattle.method.proofs.CallLaws.{refused_keeps, refused_exactly}
 use Rattle.queries.specs.Queries.{proposal_line, order_line, if_open}
 use Rattle.replies.specs.Desk.{answer_line, told, Asks, Asks.calls, Asks.proposes, Asks.wants_order, asks_for, reply_to, desk, desk_read, desk_body}
 use Rattle.method.proofs.ListedLaws.{refusal_listed}
+use Rattle.replies.proofs.NamedLaws.{named_desk, named_body}
 
-pub refused_of_line : (a : CallAnswer) (k : Refusal) → answer_line a ≡ refused_line k → a ≡ Err k
+-- a line that tells a number as a refusal's is an answer's only where this is the number of the refusal that was answered
+pub refused_of_line : (a : CallAnswer) (k : ℕ) → answer_line a ≡ say (Words.Refused k) → (r : Refusal) × (k ≡ number_of r) × (a ≡ Err r)
 refused_of_line (Ok Answer.Done) k e = never (cc)
 refused_of_line (Ok (Answer.Begun n)) k e = never (cc)
 refused_of_line (Ok (Answer.Commit n)) k e = never (cc)
 refused_of_line (Ok (Answer.Cycle n)) k e = never (cc)
 refused_of_line (Ok (Answer.Swept c)) k e = never (cc)
-refused_of_line (Err r) k e = let h : r ≡ k = same_refusal r k e in ap {B = CallAnswer} Err h
+refused_of_line (Err r) k e = (r, (cc), refl)
+
+-- the same of the line of a refusal
+pub err_of_line : (a : CallAnswer) (k : Refusal) → answer_line a ≡ refused_line k → a ≡ Err k
+err_of_line a k e =
+    let (r, n, f) = refused_of_line a (number_of k) e in
+    f ∙ ap {B = CallAnswer} Err (numbers_differ r k (sym n))
+
+-- the number that a refusal's line tells, and where it stands
+pub number_told : (r : Refusal) (k : ℕ) → refused_line r ≡ say (Words.Refused k) → k ≡ number_of r
+number_told r k e = cc
+
+pub number_listed : (l : List Refusal) {r : Refusal} {k : ℕ} → k ≡ number_of r → r ∈ l → k ∈ map number_of l
+number_listed l n i = subst (λ (j : ℕ). j ∈ map number_of l) (sym n) (Memᴰ.map number_of i)
 
 -- beside a call's refusals there are 12 and 13, of a bad table of kept rows
 abbrev refusals : List Refusal
@@ -82,20 +100,34 @@ module _ (t : Table) (k : Refusal) where
       go true true e = never (cc)
 
   reply_refuses : (a : Asks) → Refuses (reply_to t a)
-  reply_refuses (calls c) e = let f = refused_of_line (step t c).answer k e in (behind (behind (refusal_listed t c k f)), refused_keeps t c k f)
+  reply_refuses (calls c) e = let f = err_of_line (step t c).answer k e in (behind (behind (refusal_listed t c k f)), refused_keeps t c k f)
   reply_refuses (proposes ns) e = open_refuses (proposal_line (kept_flat t) ns) (proposal_refuses (kept_flat t) ns) e
   reply_refuses wants_order e = open_refuses (order_line (kept_flat t)) (order_refuses (kept_flat t)) e
 
-  pub desk_refuses : (m : Message) → Refuses (desk t m)
+  message_refuses : (m : Message) → Refuses (desk t m)
   unfolding desk
-  desk_refuses m = reply_refuses (asks_for m)
+  message_refuses m = reply_refuses (asks_for m)
 
-  pub body_keeps : (b : List ℕ) → (desk_body t b).1 ≡ refused_line k → (desk_body t b).0 ≡ t
-  body_keeps b = go (message_of b)
+  body_leaves : (b : List ℕ) → (desk_body t b).1 ≡ refused_line k → (desk_body t b).0 ≡ t
+  body_leaves b = go (message_of b)
     where
       go : (o : Option Message) → (desk_read t o).1 ≡ refused_line k → (desk_read t o).0 ≡ t
       go None e = refl
-      go (Some m) e = (desk_refuses m e).1
+      go (Some m) e = (message_refuses m e).1
+
+-- the same of every number that a line can tell
+module _ (t : Table) (k : ℕ) where
+  pub desk_refuses : (m : Message) → (desk t m).1 ≡ say (Words.Refused k) → (k ∈ map number_of refusals) × ((desk t m).0 ≡ t)
+  desk_refuses m e =
+      let (r, f) = named_desk t m k e in
+      let (i, u) = message_refuses t r m f in
+      (number_listed refusals (number_told r k (sym f ∙ e)) i, u)
+
+  pub body_keeps : (b : List ℕ) → (desk_body t b).1 ≡ say (Words.Refused k) → (desk_body t b).0 ≡ t
+  body_keeps b e = let (r, f) = named_body t b k e in body_leaves t r b f
+
+pub ten_of_no_message : (t : Table) (b : List ℕ) → message_of b ≡ None → desk_body t b ≡ (t, refused_line Refusal.BadBody)
+ten_of_no_message t b e = rw e
 
 -- 10 exactly if the body is no message's
 pub ten_iff : (t : Table) (b : List ℕ) → Below 256 b → ((desk_body t b).1 ≡ refused_line Refusal.BadBody) ↔ NoBody b
@@ -106,7 +138,7 @@ ten_iff t b w = go (message_of b) refl
 
     go : (o : Option Message) → message_of b ≡ o → ((desk_read t o).1 ≡ refused_line Refusal.BadBody) ↔ NoBody b
     go None e = (λ x. no_body_of_none b e, λ x. refl)
-    go (Some m) e = (λ x. absurd (not_ten (desk_refuses t Refusal.BadBody m x).0), λ x. absurd (let p = body_of_message b w m e in x m p.1 p.0))
+    go (Some m) e = (λ x. absurd (not_ten (message_refuses t Refusal.BadBody m x).0), λ x. absurd (let p = body_of_message b w m e in x m p.1 p.0))
 
 pub desk_of_none : (t : Table) (b : List ℕ) → Below 256 b → NoBody b → desk_body t b ≡ (t, refused_line Refusal.BadBody)
 desk_of_none t b w h = go (message_of b) refl

@@ -1,1 +1,2 @@
+pub mod ShutLaws
 pub mod UsedLaws

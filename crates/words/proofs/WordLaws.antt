@@ -105,6 +105,10 @@ has_not (suc k) w (suc i) h l =
 pub has_others : (w i : ℕ) → w < 2 ^ 32 → i < 32 → has (others w) i ≡ not (has w i)
 has_others w i h l = has_not 32 w i h l
 
+-- the bits from j on
+pub has_shifted : (w j i : ℕ) → has (w / 2 ^ j) i ≡ has w (j + i)
+has_shifted w j i = ap (λ x. eqb (x % 2) 1) (shr-shr w j i)
+
 -- `trailing_zeros` is the lowest number of a set that has one
 pub lowest : (k w : ℕ) → (w ≡ 0 → ⊥) → w < 2 ^ k → (count_trailing_zeros k w < k) × Lowest w (count_trailing_zeros k w)
 unfolding count_trailing_zeros
