@@ -16,7 +16,7 @@ use Rattle.std.proofs.Common.{Option, Some, None}
 use Rattle.wire.specs.Message.{Message}
 use Rattle.wire.specs.Body.{message_of}
 use Rattle.frames.specs.Stream.{Stream, ended, cut_off, framed}
-use Rattle.lines.specs.Line.{Line.say}
+use Rattle.lines.specs.Line.{Line.say, refused_line}
 use Rattle.method.specs.Slots.{kept_entries, kept_flat}
 use Rattle.method.specs.Calls.{call_refusals}
 use Rattle.runs.specs.Run.{Run, Run.call, after}
@@ -25,7 +25,7 @@ use Rattle.runs.proofs.HistoryLaws.{invariant_run}
 use Rattle.invariant.proofs.KeptLaws.{rows_of_kept, kept_good, kept_ordered}
 use Rattle.replies.specs.Desk.{Asks, Asks.calls, Asks.proposes, Asks.wants_order, asks_for, reply_to, desk, desk_read, desk_body}
 use Rattle.turns.specs.Lines.{lines_of}
-use Rattle.replies.proofs.RefusalLaws.{number_told}
+use Rattle.replies.proofs.RefusalLaws.{number_told, listed_of_number}
 use Rattle.replies.proofs.OrderedLaws.{body_listed}
 
 -- the table of the service is at each message the table after some run of calls
@@ -68,3 +68,7 @@ never_in_lines (Stream.refused l) r k (here e) = here (number_told Refusal.BadFr
 never_in_lines (Stream.refused l) r k (there i) = absurd (Memᴰ.not-nil i)
 never_in_lines (framed b s) r k (here e) = there (never_told r b k (sym e))
 never_in_lines (framed b s) r k (there i) = let (q, e) = desk_run r b in never_in_lines s q k (rw e at i)
+
+-- the same of the line of a refusal
+pub refusal_in_lines : (s : Stream) (r : Run) (k : Refusal) → refused_line k ∈ lines_of (after r) s → k ∈ Refusal.BadFrame ∷ Refusal.BadBody ∷ call_refusals
+refusal_in_lines s r k i = listed_of_number (Refusal.BadFrame ∷ Refusal.BadBody ∷ call_refusals) k (never_in_lines s r (number_of k) i)

@@ -38,7 +38,7 @@ use Rattle.method.proofs.ConditionLaws.{closed_iff}
 use Rattle.queries.specs.Queries.{proposal_line, order_line, if_open}
 use Rattle.replies.specs.Desk.{Asks, Asks.calls, Asks.proposes, Asks.wants_order, asks_for, reply_to, desk, desk_read, desk_body}
 use Rattle.method.proofs.ListedLaws.{refusal_listed}
-use Rattle.replies.proofs.RefusalLaws.{refused_of_line, number_listed}
+use Rattle.replies.proofs.RefusalLaws.{refused_of_line, number_listed, listed_of_number}
 
 -- over a list of kept rows that is good and has an order
 module _ (t : Table) (g : GoodRows (kept_flat t)) (x : (o : List ℕ) × InOrder (entries_in (kept_flat t)) o) where
@@ -88,6 +88,10 @@ module _ (t : Table) (g : GoodRows (kept_flat t)) (x : (o : List ℕ) × InOrder
         go : (o : Option Message) → (desk_read t o).1 ≡ told → k ∈ map refusals.number_of (Refusal.BadBody ∷ call_refusals)
         go None e = here (let f : 10 ≡ k = cc in sym f)
         go (Some m) e = behind (reply_listed (asks_for m) e)
+
+  -- the same of the line of a refusal
+  pub refusal_in_body : (k : Refusal) (b : List ℕ) → (desk_body t b).1 ≡ refused_line k → k ∈ Refusal.BadBody ∷ call_refusals
+  refusal_in_body k b e = listed_of_number (Refusal.BadBody ∷ call_refusals) k (body_listed (refusals.number_of k) b e)
 
   -- what an open table answers
   module _ (nc : ¬ Closed t) where

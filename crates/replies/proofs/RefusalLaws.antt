@@ -4,7 +4,7 @@ use mathlib.Core.Bool.{Bool, true, false, cond}
 use mathlib.Core.List.Memᴰ
 use mathlib.Core.List.Memᴰ.{head as here}
 use mathlib.Core.List.Memᴰ.{tail as behind}
-use mathlib.Core.List.{List, ◌∷◌, map}
+use mathlib.Core.List.{List, [], ◌∷◌, map}
 use mathlib.Core.Logic.{◌↔◌, ◌≢◌, inl}
 use Rattle.std.proofs.Common.{Option, Some, None}
 use Prim.Native.Nat.{ℕ}
@@ -67,6 +67,12 @@ number_told r k e = cc
 pub number_listed : (l : List Refusal) {r : Refusal} {k : ℕ} → k ≡ number_of r → r ∈ l → k ∈ map number_of l
 number_listed l n i = subst (λ (j : ℕ). j ∈ map number_of l) (sym n) (Memᴰ.map number_of i)
 
+-- and back: no two refusals share a number
+pub listed_of_number : (l : List Refusal) (r : Refusal) → number_of r ∈ map number_of l → r ∈ l
+listed_of_number [] r i = absurd (Memᴰ.not-nil i)
+listed_of_number (q ∷ l) r (here e) = here (numbers_differ r q e)
+listed_of_number (q ∷ l) r (behind i) = behind (listed_of_number l r i)
+
 -- beside a call's refusals there are 12 and 13, of a bad table of kept rows
 abbrev refusals : List Refusal
 refusals = Refusal.NoOrder ∷ Refusal.BadRows ∷ call_refusals
@@ -104,11 +110,11 @@ module _ (t : Table) (k : Refusal) where
   reply_refuses (proposes ns) e = open_refuses (proposal_line (kept_flat t) ns) (proposal_refuses (kept_flat t) ns) e
   reply_refuses wants_order e = open_refuses (order_line (kept_flat t)) (order_refuses (kept_flat t)) e
 
-  message_refuses : (m : Message) → Refuses (desk t m)
+  pub message_refuses : (m : Message) → Refuses (desk t m)
   unfolding desk
   message_refuses m = reply_refuses (asks_for m)
 
-  body_leaves : (b : List ℕ) → (desk_body t b).1 ≡ refused_line k → (desk_body t b).0 ≡ t
+  pub body_leaves : (b : List ℕ) → (desk_body t b).1 ≡ refused_line k → (desk_body t b).0 ≡ t
   body_leaves b = go (message_of b)
     where
       go : (o : Option Message) → (desk_read t o).1 ≡ refused_line k → (desk_read t o).0 ≡ t
