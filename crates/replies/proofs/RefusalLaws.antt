@@ -4,7 +4,7 @@ use mathlib.Core.Bool.{Bool, true, false, cond}
 use mathlib.Core.List.Memᴰ
 use mathlib.Core.List.Memᴰ.{head as here}
 use mathlib.Core.List.Memᴰ.{tail as behind}
-use mathlib.Core.List.{List, [], ◌∷◌, map}
+use mathlib.Core.List.{List, ◌∷◌, map}
 use mathlib.Core.Logic.{◌↔◌, ◌≢◌, inl}
 use Rattle.std.proofs.Common.{Option, Some, None}
 use Prim.Native.Nat.{ℕ}
@@ -69,9 +69,7 @@ number_listed l n i = subst (λ (j : ℕ). j ∈ map number_of l) (sym n) (Mem�
 
 -- and back: no two refusals share a number
 pub listed_of_number : (l : List Refusal) (r : Refusal) → number_of r ∈ map number_of l → r ∈ l
-listed_of_number [] r i = absurd (Memᴰ.not-nil i)
-listed_of_number (q ∷ l) r (here e) = here (numbers_differ r q e)
-listed_of_number (q ∷ l) r (behind i) = behind (listed_of_number l r i)
+listed_of_number l r i = let (q, m, e) = Memᴰ.of_map number_of l i in Memᴰ.cast (numbers_differ r q (sym e)) m
 
 -- beside a call's refusals there are 12 and 13, of a bad table of kept rows
 abbrev refusals : List Refusal
